@@ -1,0 +1,2 @@
+-- What the code adds to the rules: the form of a table.
+pub mod Table

@@ -1,0 +1,2 @@
+-- Laws that callers of `layout` cite.
+pub mod Laws

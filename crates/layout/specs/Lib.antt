@@ -1,0 +1,3 @@
+-- What the contracts of `layout` cite, besides the definitions of `rules`.
+pub mod Numbers
+pub mod Geometry
