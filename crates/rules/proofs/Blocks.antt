@@ -12,6 +12,7 @@ pub mod Append
 pub mod Reopen
 pub mod Made
 pub mod Value
-pub mod FreshBlocks
-pub mod Fresh
+pub mod Stored
 pub mod OnBytes
+pub mod Formatted
+pub mod FormattedViews

@@ -7,5 +7,6 @@ pub mod Mounting
 pub mod Changing
 pub mod Effects
 pub mod Invariant
+pub mod Fresh
 pub mod Resting
 pub mod Demand3

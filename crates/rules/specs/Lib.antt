@@ -9,3 +9,4 @@ pub mod Meaning
 pub mod Stores
 pub mod Calls
 pub mod Demands
+pub mod BenchSheet

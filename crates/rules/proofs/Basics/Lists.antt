@@ -1,12 +1,12 @@
--- Laws of lists that are not about the store: a part of a part, a run of stores seen through `take` and `drop`, `map`.
+-- Laws of lists that are not about the store: a part of a part, the elements one by one, a run of stores seen through `take` and `drop`, `map`.
 -- Assumes nothing.
 use mathlib.Core.Path.{_≡_, refl, sym, ap, _∙_}
 use mathlib.Core.List.{List, [], _∷_, _++_, map, append-nil}
-use Prim.Native.Nat.{ℕ, zero, suc, _+_, _≤_, _<_}
+use Prim.Native.Nat.{ℕ, zero, suc, _+_, _-_, _≤_, _<_}
 use native.Mathlib.Nat.{le-of-suc-le-suc, not-suc-le-zero, add-suc}
 use native.Mathlib.Omega.{arith}
 use lib.ListN.{length, getD, set, take, drop, length-drop, drop-of-length-le}
-use lib.Seq.{sets, sets-eq, paste, take-length, length-take-le, take-take, take-set-le, drop-set-lt, take-set-lt, drop-set-add}
+use lib.Seq.{take-all, drop-cons, sets, sets-eq, paste, take-length, length-take-le, take-take, take-set-le, drop-set-lt, take-set-lt, drop-set-add}
 
 module _ {ℓ} {A : Type ℓ} where
   -- ---- a part of a part
@@ -20,6 +20,23 @@ module _ {ℓ} {A : Type ℓ} where
 
   pub length-part : (k m : ℕ) (l : List A) → m + k ≤ length l → length (take k (drop m l)) ≡ k
   length-part k m l h = length-take-le k (drop m l) (simp length-drop (omega arith))
+
+  -- what is left from place m on
+  pub part-to-end : (m : ℕ) (l : List A) → take (length l - m) (drop m l) ≡ drop m l
+  part-to-end m l = take-all (length l - m) (drop m l) (omega (arith, length-drop m l))
+
+  -- ---- a list by its elements
+
+  -- n elements from place i on
+  unfoldable pub elements : (i n : ℕ) → A → List A → List A
+  elements i zero d l = []
+  elements i (suc n) d l = getD l i d ∷ elements (suc i) n d l
+
+  pub by-elements : (i n : ℕ) (d : A) (l : List A) → length l ≡ i + n → drop i l ≡ elements i n d l
+  unfolding elements
+  by-elements i zero d l e = drop-of-length-le l {i = i} (omega arith)
+  by-elements i (suc n) d l e =
+      drop-cons l i d (omega arith) ∙ ap (λ (r : List A). getD l i d ∷ r) (by-elements (suc i) n d l (omega arith))
 
   -- ---- a run of stores: it stays on its side of a cut
 

@@ -4,11 +4,13 @@ use mathlib.Core.Bool.{Bool, true, false, _&&_, false≢true}
 use mathlib.Core.List.{List, [], _∷_}
 use mathlib.Core.Option.{none, some, Option·some-injective, Option·none-ne-some}
 use mathlib.Core.Logic.{_⊎_, inl, inr, ⊎-elim}
-use Prim.Native.Nat.{ℕ, zero, suc, _*_, _^_, _/_, _<_}
+use Prim.Native.Nat.{ℕ, zero, suc, _+_, _-_, _*_, _^_, _/_, _<_, _≤_}
 use native.Mathlib.Nat.{pow-suc}
+use native.Mathlib.Numerals.{add-one}
 use native.Mathlib.Omega.{arith}
 use lib.Dec.{eqb}
-use lib.ListN.{length, length-replicate}
+use lib.ListN.{length, getD, drop, length-replicate, drop-of-length-le}
+use lib.Seq.{drop-cons}
 use borrow.Author.Tests.{eqb-true}
 use Rattle.rules.specs.Notation.{if_then_else_, when, bytesOf, numberOf, erased, isErased}
 
@@ -88,3 +90,22 @@ is-erased [] e = refl
 is-erased (b ∷ bs) e =
     let (here, rest) = both-true (eqb b 0xFF) (isErased bs) e in
     ap (λ (x : ℕ). x ∷ bs) (eqb-true b 0xFF here) ∙ ap (λ (l : List ℕ). 0xFF ∷ l) (is-erased bs rest)
+
+-- erased bytes from a place on: the byte there and those after it, and none past the end
+pub erased-next : (bytes : List ℕ) (i : ℕ) → i < length bytes
+    → isErased (drop i bytes) ≡ (eqb (getD bytes i 0) 0xFF && isErased (drop (i + 1) bytes))
+unfolding isErased
+erased-next bytes i h = rw (add-one, drop-cons bytes i 0)
+
+pub erased-end : (bytes : List ℕ) (i : ℕ) → length bytes ≤ i → isErased (drop i bytes) ≡ true
+unfolding isErased
+erased-end bytes i h = rw (drop-of-length-le bytes h)
+
+-- what is left of erased bytes is erased
+pub drop-erased : (k n : ℕ) → k ≤ n → drop k (erased n) ≡ erased (n - k)
+unfolding erased
+drop-erased zero n h = let e : n ≡ n - 0 = omega arith in ap erased e
+drop-erased (suc k) zero h = absurd (omega arith)
+drop-erased (suc k) (suc n) h =
+    let e : n - k ≡ suc n - suc k = omega arith in
+    drop-erased k n (omega arith) ∙ ap erased e

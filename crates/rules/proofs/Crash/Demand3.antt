@@ -25,12 +25,12 @@ use Rattle.rules.proofs.Ring.States.{is-state}
 use Rattle.rules.proofs.Ring.Changes.{by-test}
 use Rattle.rules.proofs.Due.Calls.{answer-cut, mount-coverable}
 use Rattle.rules.proofs.Ring.Fits.{map-each}
-use Rattle.rules.proofs.Blocks.OnBytes.{Cut, call-on, call-off, leaves-on}
+use Rattle.rules.proofs.Blocks.OnBytes.{HasBlocks, call-on, call-off, leaves-on, inside-lie}
 use Rattle.rules.proofs.Crash.Cuts.{Goes}
 use Rattle.rules.proofs.Crash.Standing.{Stands, rests-stand}
 use Rattle.rules.proofs.Crash.Mounting.{Settled, mount-goes}
-use Rattle.rules.proofs.Blocks.FreshBlocks.{format-inside}
-use Rattle.rules.proofs.Blocks.Fresh.{fresh-rests}
+use Rattle.rules.proofs.Blocks.Formatted.{format-inside}
+use Rattle.rules.proofs.Crash.Fresh.{format-stands}
 use Rattle.rules.proofs.Crash.Invariant.{Invariant, kept-by-call}
 use Rattle.rules.proofs.Crash.Resting.{succeeds-of, rest-holds}
 
@@ -121,15 +121,13 @@ kept-by-format size count bytes a ok given = by-test (legalSizes size count (len
         ok-image = image-of-bytes B count bytes ok (bounds .exact)
 
         inside : Each (IsInside B count) (made (make (format B count) 0) a)
-        inside = each-take a (format-inside B count (bounds .blocks-from) (bounds .sectors-from))
+        inside = each-take a (format-inside B count (omega (arith, bounds .blocks-from)) (omega (arith, bounds .sectors-from)))
 
-        left : Cut size count (leaves size (make (format B count) 0) a bytes) (apply (made (make (format B count) 0) a) im)
-        left = leaves-on size count (record { legal = legal; blocks = refl }) (make (format B count) 0) a inside
+        left : HasBlocks size count (leaves size (make (format B count) 0) a bytes) (apply (made (make (format B count) 0) a) im)
+        left = leaves-on size count (record { legal = legal; blocks = refl }) (make (format B count) 0) a (inside-lie inside)
 
         fresh : Stands count (λ id. none) (viewsOf B (apply (format B count) im))
-        fresh =
-            let (ring, rests, matches) = fresh-rests B count im (bounds .blocks-from) (bounds .sectors-from) ok-image in
-            rests-stand count (λ id. none) matches rests
+        fresh = format-stands B count bytes (bounds .blocks-from) (bounds .sectors-from)
 
 -- and so does every list of calls
 pub kept-by-run : (size count : ℕ) (list : List Call) (state : Run) → Each Typed list → Invariant size count (state .image) (state .model)
@@ -144,7 +142,7 @@ few-turns (atRest w) = omega arith
 few-turns (notReopened w) = omega arith
 few-turns (midTurn u) = omega arith
 
-mount-is : (size count : ℕ) (image : List ℕ) {im : Image} → Cut size count image im → (state : State) → stateOf (viewsOf (size / blockSize) im) ≡ some state
+mount-is : (size count : ℕ) (image : List ℕ) {im : Image} → HasBlocks size count image im → (state : State) → stateOf (viewsOf (size / blockSize) im) ≡ some state
     → mountDue size count image ≡ make (mount (size / blockSize) count state im) (mountTurns state)
 unfolding mountDue mountOn inState
 mount-is size count image {im} cut state found =
@@ -174,7 +172,7 @@ invariant-holds size count state inv =
     bounds : Bounds size count (length image)
     bounds = legal-bounds size count (length image) (inv .legal)
 
-    cut : Cut size count image im
+    cut : HasBlocks size count image im
     cut = record { legal = inv .legal; blocks = refl }
 
     found : stateOf (viewsOf B im) ≡ some (s .state)
@@ -203,8 +201,8 @@ invariant-holds size count state inv =
         inside : Each (IsInside B count) (made what a)
         inside = each-take a (goes .inside)
 
-        left : Cut size count (leaves size what a image) (apply (made what a) im)
-        left = leaves-on size count cut what a inside
+        left : HasBlocks size count (leaves size what a image) (apply (made what a) im)
+        left = leaves-on size count cut what a (inside-lie inside)
 
         same : imageOf B count (leaves size what a image) ≡ apply (plan im) im
         same = left .blocks ∙ ap (λ (ss : List Store). apply ss im) (take-all a (plan im) enough)

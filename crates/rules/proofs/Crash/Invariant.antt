@@ -22,7 +22,7 @@ use Rattle.rules.proofs.Terms.{IsImage, IsInside}
 use Rattle.rules.proofs.Basics.Notation.{if-true, if-false, when-true}
 use Rattle.rules.proofs.Format.Ground.{Bounds, legal-bounds}
 use Rattle.rules.proofs.Ring.Changes.{by-test}
-use Rattle.rules.proofs.Blocks.OnBytes.{Cut, dueOn, due-on, leaves-on}
+use Rattle.rules.proofs.Blocks.OnBytes.{HasBlocks, dueOn, due-on, leaves-on, inside-lie}
 use Rattle.rules.proofs.Blocks.OnImage.{apply-image}
 use Rattle.rules.proofs.Crash.Standing.{Stands, rests-stand}
 use Rattle.rules.proofs.Crash.Mounting.{Settled}
@@ -200,7 +200,7 @@ kept-by-call size count state call typed inv = ⊎-elim changed alone after
     bounds : Bounds size count (length image)
     bounds = legal-bounds size count (length image) (inv .legal)
 
-    cut : Cut size count image im
+    cut : HasBlocks size count image im
     cut = record { legal = inv .legal; blocks = refl }
 
     effect : Effect B count im T (lookup-after call T) what
@@ -211,8 +211,8 @@ kept-by-call size count state call typed inv = ⊎-elim changed alone after
     inside : Each (IsInside B count) (made what a)
     inside = effect-inside B count im a effect
 
-    left : Cut size count (leaves size what a image) (apply (made what a) im)
-    left = leaves-on size count cut what a inside
+    left : HasBlocks size count (leaves size what a image) (apply (made what a) im)
+    left = leaves-on size count cut what a (inside-lie inside)
 
     number : ℕ
     number = answerNumbers (answer what a) .number

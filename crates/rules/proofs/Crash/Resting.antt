@@ -33,7 +33,7 @@ use Rattle.rules.proofs.Ring.Fits.{IsNoRoom, IsLeast, none-room, room-n
 use Rattle.rules.proofs.Ring.LiveBySector.{ring-sectors, sectors-ring}
 use Rattle.rules.proofs.Ring.States.{is-state}
 use Rattle.rules.proofs.Due.Calls.{IsCoverable, answer-whole, answer-cut, write-coverable, delete-coverable}
-use Rattle.rules.proofs.Blocks.OnBytes.{Cut, call-on}
+use Rattle.rules.proofs.Blocks.OnBytes.{HasBlocks, call-on}
 use Rattle.rules.proofs.Blocks.Value.{roomy}
 use Rattle.rules.proofs.Crash.Mounting.{Settled}
 use Rattle.rules.proofs.Crash.Changing.{counted}
@@ -207,7 +207,7 @@ module _ (size count : ℕ) (image : List ℕ) (model : Model) (inv : Invariant 
   abbrev w : ℕ
   w = q .working
 
-  cut : Cut size count image im
+  cut : HasBlocks size count image im
   cut = record { legal = inv .legal; blocks = refl }
 
   bounds : Bounds size count (length image)

@@ -1,11 +1,10 @@
 -- How many stores each step makes: a format exactly 1 + S x B, and every other at most so many that a call's are far below
 -- 2^32, on any image. The bounds are crude: B is at most 4,096, and a step stores at most so many entries of so many blocks.
 -- Assumes nothing.
-use mathlib.Core.Path.{_≡_, refl, ap, _∙_}
+use mathlib.Core.Path.{_≡_, refl, ap}
 use mathlib.Core.Bool.{Bool, true, false}
 use mathlib.Core.List.{List, [], _∷_}
-use Prim.Native.Nat.{ℕ, zero, suc, _+_, _*_, _-_, _<_, _≤_, _^_}
-use native.Mathlib.Nat.{suc-mul}
+use Prim.Native.Nat.{ℕ, zero, suc, _+_, _*_, _<_, _≤_, _^_}
 use native.Mathlib.Numerals.{bound}
 use native.Mathlib.Omega.{arith}
 use lib.ListN.{length, length-append}
@@ -13,31 +12,8 @@ use Rattle.rules.specs.Notation.{Each, empty, each}
 use Rattle.rules.specs.Ground.{Block, Image}
 use Rattle.rules.specs.Reading.{Entry}
 use Rattle.rules.specs.Meaning.{State, atRest, notReopened, midTurn, next}
-use Rattle.rules.specs.Stores.{Plan, apply, nothing, _andThen_, dataStores, blankIf, append, appendAll, reopen, closeSector, doneEntry, survivors, finishTurn, turn, turns, moved, mount, change, finalBlocks, finalSectors, format}
+use Rattle.rules.specs.Stores.{Plan, apply, nothing, _andThen_, dataStores, blankIf, append, appendAll, reopen, closeSector, doneEntry, survivors, finishTurn, turn, turns, moved, mount, change}
 use Rattle.rules.proofs.Due.Few.{IsShort, AreFew, few-survivors}
-
--- ---- format
-
-length-final-blocks : (B s b count : ℕ) → length (finalBlocks B s b count) ≡ count
-unfolding finalBlocks
-length-final-blocks B s b zero = refl
-length-final-blocks B s b (suc count) = ap suc (length-final-blocks B s (suc b) count)
-
-length-final-sectors : (B s count : ℕ) → length (finalSectors B s count) ≡ count * B
-unfolding finalSectors
-length-final-sectors B s zero = omega arith
-length-final-sectors B s (suc count) =
-    simp (length-append, length-final-blocks, length-final-sectors B (suc s) count) (omega (arith, suc-mul count B))
-
--- "1 + S x B stores"
-pub length-format : (B S : ℕ) → 1 ≤ B → 1 ≤ S → length (format B S) ≡ 1 + S * B
-unfolding format
-length-format B S some-block some-sector =
-    let again : S ≡ suc (S - 1) = omega arith in
-    let whole : S * B ≡ (S - 1) * B + B = ap (λ (n : ℕ). n * B) again ∙ suc-mul (S - 1) B in
-    simp (length-append, length-final-blocks, length-final-sectors) (omega arith)
-
--- ---- the steps
 
 length-data-stores : (s b : ℕ) (blocks : List Block) → length (dataStores s b blocks) ≡ length blocks
 unfolding dataStores

@@ -21,7 +21,8 @@ use Rattle.rules.specs.Calls.{Due, refuse, make, Refusal, geometry, rese
 use Rattle.rules.proofs.Basics.Notation.{if-true, if-false, if-cases}
 use Rattle.rules.proofs.Format.Ground.{length-pieces, Bounds, legal-bounds}
 use Rattle.rules.proofs.Due.Few.{if-either, IsShort}
-use Rattle.rules.proofs.Due.Bound.{length-format, mount-due, change-due}
+use Rattle.rules.proofs.Due.Bound.{mount-due, change-due}
+use Rattle.rules.proofs.Blocks.Formatted.{length-format}
 
 -- ---- what an allowance answers
 

@@ -1,19 +1,28 @@
 -- Laws of the looks: what each finds, in the paper's words, and that nothing is two things.
 use mathlib.Core.Path.{_≡_, refl, sym, ap, subst, _∙_}
-use mathlib.Core.Bool.{true, false, not, _&&_, false≢true}
+use mathlib.Core.Bool.{Bool, true, false, not, _&&_, false≢true}
 use mathlib.Core.List.{List}
 use mathlib.Core.Logic.{⊎-elim}
 use mathlib.Core.Option.{Option, none, some}
-use Prim.Native.Nat.{ℕ, _*_, _<_, _≤_}
+use Prim.Native.Nat.{ℕ, _+_, _*_, _/_, _<_, _≤_}
 use native.Mathlib.Omega.{arith}
 use lib.Dec.{eqb, leb}
 use lib.ListN.{take, drop}
 use borrow.Author.Tests.{eq-eqb, ne-eqb, le-leb, lt-leb, eqb-true, eqb-false, leb-true, leb-false, not-false}
-use Rattle.rules.specs.Notation.{numberOf, erased, isErased}
+use Rattle.rules.specs.Notation.{if_then_else_, numberOf, erased, isErased}
 use Rattle.rules.specs.Ground.{Block, blockSize, reservedId, blankBlock}
 use Rattle.rules.specs.Entry.{cycleOf, lengthOf, idOf, bodyOf, offsetOf, crc32Of, leadLength, leadMark}
-use Rattle.rules.specs.Look.{isChecked, isLead, isClose, Head, done, deletion, value, Scan, Verdict, entry, blank, otherCycle, wrongCheck, wrongForm, overLimit, formOf, headOf, isWithin, isEntry, judge, look}
+use Rattle.rules.specs.Look.{isChecked, isLead, leadCycle, isClose, Head, done, deletion, value, dataBlocks, Scan, Verdict, entry, blank, otherCycle, wrongCheck, wrongForm, overLimit, formOf, headOf, isWithin, isEntry, judge, look}
 use Rattle.rules.proofs.Basics.Notation.{if-true, if-false, took-else, took-then, if-cases, when-some, when-true, when-false, both-true, refuted, erased-is}
+
+-- A value has at most as many data blocks as bytes.
+pub data-blocks-le : (len : ℕ) → dataBlocks len ≤ len
+unfolding dataBlocks if_then_else_
+data-blocks-le len = go (leb len 8) refl
+  where
+    go : (t : Bool) → leb len 8 ≡ t → (if t then 0 else (len + 15) / blockSize) ≤ len
+    go true e = omega arith
+    go false e = omega (arith, leb-false len 8 e)
 
 -- The kinds of the paper's list, by their fields.
 pub data Kind (dataEnd id len : ℕ) (body : List ℕ) : Head → Type 0 where
@@ -83,6 +92,19 @@ judge-entry B scan (some h) {head} e =
     let same-head : h ≡ head = entry-injective same in
     (ap (λ (x : Head). some x) same-head, ap (λ (x : Head). isWithin B scan x) (sym same-head) ∙ w)
 
+-- The verdict on a form: none is wrong, and a head counts exactly where its sector still takes it.
+pub judge-none : (B : ℕ) (scan : Scan) → judge B scan none ≡ wrongForm
+unfolding judge
+judge-none B scan = refl
+
+pub judge-within : (B : ℕ) (scan : Scan) (head : Head) → isWithin B scan head ≡ true → judge B scan (some head) ≡ entry head
+unfolding judge
+judge-within B scan head e = simp (e, if-true)
+
+pub judge-over : (B : ℕ) (scan : Scan) (head : Head) → isWithin B scan head ≡ false → judge B scan (some head) ≡ overLimit
+unfolding judge
+judge-over B scan head e = simp (e, if-false)
+
 pub look-entry : (B cycle : ℕ) (scan : Scan) (block : Block) {head : Head} → look B cycle scan block ≡ entry head → Counts B cycle scan block head
 unfolding look isEntry
 look-entry B cycle scan block e =
@@ -113,9 +135,19 @@ close-fields cycle block e =
     let (same, check) = both-true (eqb (cycleOf block) cycle) (isChecked block) e₁ in
     record { rightCycle = eqb-true _ _ same; rightCheck = check; reserved = eqb-true _ _ id; empty = eqb-true _ _ len; padded = body }
 
-pub other-cycle-close : (cycle : ℕ) (block : Block) → (cycleOf block ≡ cycle → ⊥) → isClose cycle block ≡ false
+-- with the fields before it right, the body decides
+pub close-body : (cycle : ℕ) (block : Block) → cycleOf block ≡ cycle → isChecked block ≡ true → idOf block ≡ reservedId → lengthOf block ≡ 0
+    → isClose cycle block ≡ isErased (bodyOf block)
 unfolding isClose
-other-cycle-close cycle block other = simp (ne-eqb (cycleOf block) cycle other)
+close-body cycle block same check reserved empty =
+    simp (eq-eqb (cycleOf block) cycle same, check, eq-eqb (idOf block) reservedId reserved, eq-eqb (lengthOf block) 0 empty)
+
+-- a block with a wrong field is none
+pub no-close : (cycle : ℕ) (block : Block) → (Closes cycle block → ⊥) → isClose cycle block ≡ false
+no-close cycle block never = refuted (isClose cycle block) (λ e. never (close-fields cycle block e))
+
+pub other-cycle-close : (cycle : ℕ) (block : Block) → (cycleOf block ≡ cycle → ⊥) → isClose cycle block ≡ false
+other-cycle-close cycle block other = no-close cycle block (λ f. other (f .rightCycle))
 
 -- A lead is right in each of its fields.
 pub record Leads (block : Block) : Type 0 where
@@ -134,6 +166,16 @@ lead-fields block e =
     let (check, id) = both-true (isChecked block) (eqb (idOf block) reservedId) e₁ in
     record { rightCheck = check; reserved = eqb-true _ _ id; long = eqb-true _ _ len; zero = eqb-true _ _ none-set; marked = eqb-true _ _ mark }
 
+pub lead-found : (block : Block) → Leads block → leadCycle block ≡ some (cycleOf block)
+unfolding leadCycle isLead
+lead-found block f =
+    simp (f .rightCheck, eq-eqb _ _ (f .reserved), eq-eqb _ _ (f .long), eq-eqb _ _ (f .zero), eq-eqb _ _ (f .marked), when-true)
+
+-- a block with a wrong field is none
+pub no-lead : (block : Block) → (Leads block → ⊥) → leadCycle block ≡ none
+unfolding leadCycle
+no-lead block never = simp (refuted (isLead block) (λ e. never (lead-fields block e)), when-false)
+
 -- Bench sheet, row 7: a blank block is no entry, lead or close, under any cycle and after any reading.
 pub blank-no-entry : (B cycle : ℕ) (scan : Scan) → look B cycle scan blankBlock ≡ blank
 unfolding look blankBlock
@@ -147,7 +189,7 @@ blank-no-lead =
 pub blank-no-close : (cycle : ℕ) → isClose cycle blankBlock ≡ false
 unfolding blankBlock erased lengthOf numberOf
 blank-no-close cycle =
-    refuted (isClose cycle blankBlock) (λ e. let empty : lengthOf blankBlock ≡ 0 = close-fields cycle blankBlock e .empty in omega arith)
+    no-close cycle blankBlock (λ f. let empty : lengthOf blankBlock ≡ 0 = f .empty in omega arith)
 
 -- Close and done differ by place alone: in an entry block, a close's bytes are a done's, and the other way round.
 pub close-is-done : (cycle dataEnd : ℕ) (block : Block) → isClose cycle block ≡ true → headOf dataEnd block ≡ some done
@@ -160,10 +202,10 @@ done-fields : {dataEnd id len : ℕ} {body : List ℕ} → Kind dataEnd id len b
 done-fields (is-done reserved empty padded) = (reserved, empty, padded)
 
 pub done-is-close : (cycle dataEnd : ℕ) (block : Block) → cycleOf block ≡ cycle → isChecked block ≡ true → headOf dataEnd block ≡ some done → isClose cycle block ≡ true
-unfolding headOf isClose
+unfolding headOf
 done-is-close cycle dataEnd block same check e =
     let (reserved, empty, padded) = done-fields (form-kind dataEnd (idOf block) (lengthOf block) (bodyOf block) e) in
-    simp (eq-eqb (cycleOf block) cycle same, check, eq-eqb (idOf block) reservedId reserved, eq-eqb (lengthOf block) 0 empty, padded)
+    close-body cycle block same check reserved empty ∙ padded
 
 -- A lead is no entry, and no close.
 pub lead-no-head : (dataEnd : ℕ) (block : Block) → isLead block ≡ true → headOf dataEnd block ≡ none
@@ -175,4 +217,4 @@ lead-no-head dataEnd block e =
 
 pub lead-no-close : (cycle : ℕ) (block : Block) → isLead block ≡ true → isClose cycle block ≡ false
 lead-no-close cycle block e =
-    refuted (isClose cycle block) (λ c. omega (arith, lead-fields block e .long, close-fields cycle block c .empty))
+    no-close cycle block (λ f. omega (arith, lead-fields block e .long, f .empty))
