@@ -109,3 +109,14 @@ drop-erased (suc k) zero h = absurd (omega arith)
 drop-erased (suc k) (suc n) h =
     let e : n - k ≡ suc n - suc k = omega arith in
     drop-erased k n (omega arith) ∙ ap erased e
+
+-- by the two answers of a test
+pub by-test {ℓ} : {A : Type ℓ} (b : Bool) → (b ≡ true → A) → (b ≡ false → A) → A
+by-test true t f = t refl
+by-test false t f = f refl
+
+-- what holds of the branch that is taken holds of the choice
+pub if-either {ℓ κ} : {A : Type ℓ} (P : A → Type κ) (b : Bool) {x y : A} → (b ≡ true → P x) → (b ≡ false → P y) → P (if b then x else y)
+unfolding if_then_else_
+if-either P true px py = px refl
+if-either P false px py = py refl

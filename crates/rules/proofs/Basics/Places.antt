@@ -133,13 +133,8 @@ module _ {ℓ} {A : Type ℓ} (test : A → Bool) where
     pub only-place : (xs : List A) (p : ℕ) → Only test d xs p → placesFrom 0 test xs ≡ p ∷ []
     only-place xs p one = let same : 0 + p ≡ p = omega arith in only-from 0 xs p one ∙ cc
 
--- Each element is so exactly where each place is.
+-- Each element is so where each place is.
 module _ {ℓ κ} {A : Type ℓ} (P : A → Type κ) (d : A) where
-  pub each-at : {xs : List A} → Each P xs → (k : ℕ) → k < length xs → P (getD xs k d)
-  each-at empty k h = absurd (omega arith)
-  each-at (each p ps) zero h = p
-  each-at (each p ps) (suc k) h = each-at ps k (le-of-suc-le-suc h)
-
   pub at-each : (xs : List A) → ((k : ℕ) → k < length xs → P (getD xs k d)) → Each P xs
   at-each [] h = empty
   at-each (x ∷ xs) h = each (h zero (omega arith)) (at-each xs (λ k b. h (suc k) (suc-le-suc b)))

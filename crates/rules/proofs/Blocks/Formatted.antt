@@ -17,9 +17,10 @@ use Rattle.rules.proofs.Terms.{IsBlock, IsInside}
 use Rattle.rules.proofs.Basics.Notation.{both-true}
 use Rattle.rules.proofs.Basics.Lists.{sets-all}
 use Rattle.rules.proofs.Format.Ground.{length-pieces, sector-of-image}
-use Rattle.rules.proofs.Crash.Cuts.{apply-append, each-append}
+use Rattle.rules.proofs.Crash.Cuts.{apply-append}
 use Rattle.rules.proofs.Blocks.OnBytes.{each-true}
 use Rattle.rules.proofs.Computing.{computing}
+use Rattle.rules.proofs.Basics.Parts.{each-append}
 
 -- The final bytes of so many blocks of sector s upward from b, and the blocks of so many sectors from s on.
 unfoldable pub finalBytes : (B s b count : ℕ) → List Block

@@ -5,7 +5,7 @@ use mathlib.Core.List.{List, _++_}
 use Prim.Native.Nat.{ℕ, zero, suc, _*_, _-_, _^_, _<_, _≤_}
 use native.Mathlib.Omega.{arith}
 use lib.Dec.{ltb}
-use lib.ListN.{length, drop, length-append, length-drop}
+use lib.ListN.{length, length-append, length-drop}
 use lib.Seq.{drop-at, length-take-le}
 use borrow.Author.Tests.{ltb-true, ltb-false}
 use Rattle.rules.specs.Notation.{if_then_else_, pieces, bytesOf, erased, isErased, Each, empty, each}
@@ -18,17 +18,13 @@ use Rattle.rules.proofs.Basics.Notation.{if-true, if-false, erased-is, 
 use Rattle.rules.proofs.Format.Entry.{length-padded}
 use Rattle.rules.proofs.Basics.Parts.{each-take, each-drop, each-append, each-either}
 use Rattle.rules.proofs.Blocks.Written.{each-bytesOf, each-erased}
+use Rattle.rules.proofs.Format.Ground.{length-pieces}
 
 pub done-proper : IsProper doneEntry
 unfolding doneEntry dataOf
 done-proper = record { fits = fits-done (length-erased 8) (erased-is 8); bytes = each-erased 8; counted = refl; blocks = empty }
 
 -- whole pieces of bytes are blocks
-length-pieces {ℓ} : {A : Type ℓ} (n k : ℕ) (xs : List A) → length (pieces n k xs) ≡ n
-unfolding pieces
-length-pieces zero k xs = refl
-length-pieces (suc n) k xs = ap suc (length-pieces n k (drop k xs))
-
 pieces-blocks : (n : ℕ) {xs : List ℕ} → n * blockSize ≤ length xs → Each (λ b. b < 256) xs → Each IsBlock (pieces n blockSize xs)
 unfolding pieces
 pieces-blocks zero enough bytes = empty

@@ -16,8 +16,7 @@ use Rattle.rules.specs.Look.{dataBlocks}
 use Rattle.rules.specs.Reading.{Entry, isLong}
 use Rattle.rules.specs.Meaning.{lengthIn, valueOf, isSound}
 use Rattle.rules.specs.Stores.{valueEntry}
-use Rattle.rules.proofs.Basics.Notation.{if-true, if-false, number-bytes, length-erased}
-use Rattle.rules.proofs.Ring.Changes.{by-test}
+use Rattle.rules.proofs.Basics.Notation.{if-true, if-false, number-bytes, length-erased, by-test}
 use Rattle.rules.proofs.Format.Checksum.{crc32-below}
 
 -- pieces put together again

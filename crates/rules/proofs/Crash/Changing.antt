@@ -20,11 +20,11 @@ use Rattle.rules.proofs.Ring.History.{entriesEach, entriesIn-each, chan
 use Rattle.rules.proofs.Ring.Events.{after-add}
 use Rattle.rules.proofs.Blocks.Counting.{needs-all}
 use Rattle.rules.proofs.Blocks.Append.{append-atomic}
-use Rattle.rules.proofs.Ring.Changes.{by-test, lookup-other, lookup-named}
+use Rattle.rules.proofs.Ring.Changes.{lookup-other, lookup-named}
 use Rattle.rules.proofs.Ring.Turns.{live-rotated}
 use Rattle.rules.proofs.Ring.Fits.{IsLeast, openNeeds, turns-least}
-use Rattle.rules.proofs.Basics.Notation.{if-true, if-false}
-use Rattle.rules.proofs.Crash.Standing.{turned, turned-matches, concat-snoc, each-append, Stands, Rests, rests-stand}
+use Rattle.rules.proofs.Basics.Notation.{if-true, if-false, by-test}
+use Rattle.rules.proofs.Crash.Standing.{turned, turned-matches, concat-snoc, Stands, Rests, rests-stand, entriesEach-append}
 use Rattle.rules.proofs.Crash.Shifts.{at-size, two-of, sized-changed}
 use Rattle.rules.proofs.Crash.Turning.{image-after, turn-goes}
 use Rattle.rules.proofs.Crash.Mounting.{Settled}
@@ -67,7 +67,7 @@ needs-rotate o others =
     let x : View = showing (c ++ (doneEntry ∷ [])) in
     let rotated : liveEach (vs ++ (x ∷ [])) ≡ liveEach vs ++ (c ∷ []) =
     live-rotated (showing o) vs x (ap (λ (es : List Entry). liveAmong o es ++ (doneEntry ∷ [])) (sym rest)) ∙ ap (λ (es : List Entry). liveEach vs ++ (liveAmong o es ∷ [])) rest in
-    ap liveNeeds (sym (each-append vs (x ∷ []) ∙ ap (λ (l : List (List Entry)). l ++ ((c ++ (doneEntry ∷ [])) ∷ [])) (shown others)))
+    ap liveNeeds (sym (entriesEach-append vs (x ∷ []) ∙ ap (λ (l : List (List Entry)). l ++ ((c ++ (doneEntry ∷ [])) ∷ [])) (shown others)))
     ∙ sym (live-needs-views (vs ++ (x ∷ [])))
     ∙ ap (map needsOf) rotated
     ∙ map-append needsOf (liveEach vs) (c ∷ [])
@@ -129,7 +129,7 @@ module _ (S : ℕ) (two : 2 ≤ S) where
   rests-newest {w} {sectors} {views} r =
       sym (r .held)
       ∙ at-size S two (λ (n : ℕ). entriesEach (allBut (next n w) views) ≡ entriesEach (allButTwo w views ++ (viewAt views w ∷ []))) (r .sized) (ap entriesEach (ring w views (r .is .here) (two-of S two (r .sized)) .newest))
-      ∙ each-append (allButTwo w views) (viewAt views w ∷ [])
+      ∙ entriesEach-append (allButTwo w views) (viewAt views w ∷ [])
 
   -- one more entry in the working sector
   add-shift : {w : ℕ} {sectors : List (List Entry)} {views : List View} (e : Entry) → Rests S w sectors views
@@ -144,7 +144,7 @@ module _ (S : ℕ) (two : 2 ≤ S) where
         is = is;
         held =
             at-size S two (λ (n : ℕ). entriesEach (allBut (next n w) after) ≡ entriesEach (allButTwo w after ++ (viewAt after w ∷ []))) sized (ap entriesEach (ring w after (is .here) (two-of S two sized) .newest))
-            ∙ each-append (allButTwo w after) (viewAt after w ∷ [])
+            ∙ entriesEach-append (allButTwo w after) (viewAt after w ∷ [])
             ∙ ap (λ (vs : List View). entriesEach (tail vs) ++ (viewAt after w .entries ∷ [])) (changed-allBut (addedView e) w views)
             ∙ ap (λ (v : View). entriesEach (allButTwo w views) ++ (v .entries ∷ [])) (changed-here (addedView e) w views (r .is .here));
       }

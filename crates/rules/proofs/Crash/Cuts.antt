@@ -10,21 +10,18 @@ use lib.Dec.{ltb}
 use borrow.Author.Tests.{ltb-true, ltb-false}
 use lib.ListN.{length, take, length-append}
 use lib.Seq.{take-append-le, take-append-add}
-use Rattle.rules.specs.Notation.{Each, empty, each}
+use Rattle.rules.specs.Notation.{Each, empty}
 use Rattle.rules.specs.Ground.{Image}
 use Rattle.rules.specs.Reading.{View}
 use Rattle.rules.specs.Meaning.{viewsOf}
 use Rattle.rules.specs.Stores.{Store, Plan, apply, nothing, _andThen_}
 use Rattle.rules.proofs.Terms.{IsInside, IsAtomic}
+use Rattle.rules.proofs.Basics.Parts.{each-append}
 
 pub apply-append : (xs ys : List Store) (im : Image) → apply (xs ++ ys) im ≡ apply ys (apply xs im)
 unfolding apply
 apply-append [] ys im = refl
 apply-append (x ∷ xs) ys im = apply-append xs ys _
-
-pub each-append {ℓ κ} : {A : Type ℓ} {P : A → Type κ} {xs ys : List A} → Each P xs → Each P ys → Each P (xs ++ ys)
-each-append empty ys = ys
-each-append (each p ps) ys = each p (each-append ps ys)
 
 below-or : (k n : ℕ) → (k < n) ⊎ (n ≤ k)
 below-or k n = go (ltb k n) refl

@@ -22,7 +22,6 @@ use Rattle.rules.proofs.Basics.Parts.{each-take, each-drop}
 use Rattle.rules.proofs.Format.Ground.{Bounds, legal-bounds, length-pieces}
 use Rattle.rules.proofs.Blocks.OnImage.{apply-image}
 use Rattle.rules.proofs.Ring.States.{is-state}
-use Rattle.rules.proofs.Ring.Changes.{by-test}
 use Rattle.rules.proofs.Due.Calls.{answer-cut, mount-coverable}
 use Rattle.rules.proofs.Ring.Fits.{map-each}
 use Rattle.rules.proofs.Blocks.OnBytes.{HasBlocks, call-on, call-off, leaves-on, inside-lie}
@@ -33,6 +32,7 @@ use Rattle.rules.proofs.Blocks.Formatted.{format-inside}
 use Rattle.rules.proofs.Crash.Fresh.{format-stands}
 use Rattle.rules.proofs.Crash.Invariant.{Invariant, kept-by-call}
 use Rattle.rules.proofs.Crash.Resting.{succeeds-of, rest-holds}
+use Rattle.rules.proofs.Basics.Notation.{by-test}
 
 -- whole pieces of lists that are so are so
 pieces-so : {P : List ℕ → Type 0} (n k : ℕ) (bytes : List ℕ) → Each (λ b. b < 256) bytes → length bytes ≡ n * k

@@ -17,13 +17,13 @@ use Rattle.rules.specs.Stores.{Plan, mount, leastTurns, change, valueEnt
 use Rattle.rules.specs.Calls.{Refusal, noRoom, absent, Due, refuse, make, inState, inRest, mountTurns, mountOn, changeOn, writeOn, deleteOn}
 use Rattle.rules.proofs.Terms.{IsImage, IsProper}
 use Rattle.rules.proofs.Crash.Cuts.{Goes}
-use Rattle.rules.proofs.Due.Few.{if-either}
 use Rattle.rules.proofs.Ring.States.{is-state}
 use Rattle.rules.proofs.Crash.Standing.{Stands}
 use Rattle.rules.proofs.Crash.Turning.{within-value}
 use Rattle.rules.proofs.Crash.Mounting.{Settled, rest-settled, mount-goes}
 use Rattle.rules.proofs.Crash.Changing.{updated, change-goes}
 use Rattle.rules.proofs.Blocks.Made.{value-proper, deletion-proper}
+use Rattle.rules.proofs.Basics.Notation.{if-either}
 
 -- a call on an image that tells T: refused, or its stores go to one that tells T′
 pub data Effect (B S : ℕ) (im : Image) (T T′ : ℕ → Option Entry) : Due → Type 0 where

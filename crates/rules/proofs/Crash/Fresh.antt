@@ -1,17 +1,16 @@
 -- What a format leaves stands, and holds nothing.
-use mathlib.Core.Path.{_≡_, refl, sym, ap, subst, _∙_}
+use mathlib.Core.Path.{_≡_, sym, ap, subst, _∙_}
 use mathlib.Core.Bool.{true}
 use mathlib.Core.List.{List}
-use mathlib.Core.Option.{Option, none}
+use mathlib.Core.Option.{none}
 use Prim.Native.Nat.{ℕ, zero, suc, _≤_}
 use native.Mathlib.Nat.{not-suc-le-zero, le-of-suc-le-suc}
 use native.Mathlib.Omega.{arith}
 use lib.ListN.{length-replicate}
 use Rattle.rules.specs.Ground.{imageOf}
-use Rattle.rules.specs.Reading.{Entry, View}
 use Rattle.rules.specs.Meaning.{atRest, viewsOf, history, lookup}
 use Rattle.rules.specs.Stores.{apply, format}
-use Rattle.rules.proofs.Blocks.Formatted.{finalImage, format-bytes}
+use Rattle.rules.proofs.Blocks.Formatted.{format-bytes}
 use Rattle.rules.proofs.Blocks.FormattedViews.{emptyView, freshViews, fresh-views, fresh-rests, fresh-history, done-matches}
 use Rattle.rules.proofs.Ring.States.{state-is}
 use Rattle.rules.proofs.Crash.Standing.{Stands, settled}

@@ -5,10 +5,10 @@ use mathlib.Core.Bool.{Bool, true, false}
 use mathlib.Core.List.{List}
 use mathlib.Core.Logic.{_⊎_, inl, inr, ⊎-elim}
 use mathlib.Core.Option.{Option, none, some}
-use Prim.Native.Nat.{ℕ, zero, suc, _/_, _≤_}
+use Prim.Native.Nat.{ℕ, _/_, _≤_}
 use native.Mathlib.Omega.{arith}
 use lib.Dec.{eqb, leb}
-use lib.ListN.{length, take}
+use lib.ListN.{length}
 use lib.Seq.{take-all}
 use borrow.Author.Tests.{eq-eqb, ne-eqb, eqb-true, eqb-false, leb-true, leb-false}
 use Rattle.rules.specs.Notation.{if_then_else_, when, Each}
@@ -19,9 +19,8 @@ use Rattle.rules.specs.Stores.{Store, apply, valueEntry, deletionEntry}
 use Rattle.rules.specs.Calls.{Due, Refusal, geometry, noStore, unfinished, reserved, empty, tooLong, noRoom, absent, badData, shortBuffer, refusalNumber, answer, answerNumbers, made, leaves}
 use Rattle.rules.specs.Demands.{Call, mount, write, delete, Typed, writes, deletes, IsId, AreBytes, IsUser, Model, assign, modelAfter, due, budget, Run, step, views, Matches, matchesNothing, matchesValue}
 use Rattle.rules.proofs.Terms.{IsImage, IsInside}
-use Rattle.rules.proofs.Basics.Notation.{if-true, if-false, when-true}
+use Rattle.rules.proofs.Basics.Notation.{if-true, if-false, when-true, by-test}
 use Rattle.rules.proofs.Format.Ground.{Bounds, legal-bounds}
-use Rattle.rules.proofs.Ring.Changes.{by-test}
 use Rattle.rules.proofs.Blocks.OnBytes.{HasBlocks, dueOn, due-on, leaves-on, inside-lie}
 use Rattle.rules.proofs.Blocks.OnImage.{apply-image}
 use Rattle.rules.proofs.Crash.Standing.{Stands, rests-stand}
@@ -29,6 +28,7 @@ use Rattle.rules.proofs.Crash.Mounting.{Settled}
 use Rattle.rules.proofs.Crash.Changing.{updated}
 use Rattle.rules.proofs.Crash.Effects.{Effect, refuses, makes, value-head, mount-effect, write-effect, delete-effect}
 use Rattle.rules.proofs.Blocks.Value.{entry-value, entry-sound}
+use Rattle.rules.proofs.Basics.Parts.{each-take}
 
 pub record Invariant (size count : ℕ) (image : List ℕ) (model : Model) : Type 0 where
   pub legal : legalSizes size count (length image) ≡ true
@@ -54,12 +54,6 @@ refusal-number noRoom = omega arith
 refusal-number absent = omega arith
 refusal-number badData = omega arith
 refusal-number (shortBuffer len) = omega arith
-
-module _ {P : Store → Type 0} where
-  each-take : (n : ℕ) {xs : List Store} → Each P xs → Each P (take n xs)
-  each-take zero ps = Each.empty
-  each-take (suc n) Each.empty = Each.empty
-  each-take (suc n) (Each.each p ps) = Each.each p (each-take n ps)
 
 -- what a call's answer number says of the views after it
 abbrev Stood : (S : ℕ) (T T′ : ℕ → Option Entry) (number : ℕ) → List View → Type 0

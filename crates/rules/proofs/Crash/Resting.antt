@@ -20,14 +20,14 @@ use Rattle.rules.specs.Stores.{Store, leastTurns, change, valueEntry, de
 use Rattle.rules.specs.Calls.{noRoom, absent, Due, refuse, make, answer, answerNumbers, Numbers, Reply, readEntry, replyNumbers, refusalNumber, lengthTold, bufferAfter, inRest, changeOn, writeOn, deleteOn, readOn, writeDue, deleteDue, read}
 use Rattle.rules.specs.Demands.{IsUser, Model, views, Matches, matchesNothing, matchesValue, gives, ReadsAs, readsNothing, readsShort, readsValue, Reads, Succeeds, IsWritable, IsFull, AtRest}
 use Rattle.rules.proofs.Terms.{IsImage, IsBlock, IsProper, HeadFits, fits-done, fits-deletion, fits-small, fits-long}
-use Rattle.rules.proofs.Basics.Notation.{if-true, if-false}
+use Rattle.rules.proofs.Basics.Notation.{if-true, if-false, by-test}
 use Rattle.rules.proofs.Format.Ground.{Bounds, legal-bounds}
 use Rattle.rules.proofs.Basics.Parts.{each-append, each-take, each-drop}
 use Rattle.rules.proofs.Basics.Places.{at-each}
 use Rattle.rules.proofs.Blocks.OnImage.{proper-view, counted-view, views-length}
 use Rattle.rules.proofs.Ring.Order.{ring, allButTwo, next-lt, length-allBut}
 use Rattle.rules.proofs.Ring.History.{entriesIn-each}
-use Rattle.rules.proofs.Ring.Changes.{by-test, IsTold, lookup-place}
+use Rattle.rules.proofs.Ring.Changes.{IsTold, lookup-place}
 use Rattle.rules.proofs.Ring.Live.{live-needs}
 use Rattle.rules.proofs.Ring.Fits.{IsNoRoom, IsLeast, none-room, room-none, turns-least, one-turn, each-map, map-each}
 use Rattle.rules.proofs.Ring.LiveBySector.{ring-sectors, sectors-ring}

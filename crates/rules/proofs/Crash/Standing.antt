@@ -17,9 +17,9 @@ unfolding concat
 concat-append [] ys = refl
 concat-append (x ∷ xs) ys = ap (λ (es : List Entry). x ++ es) (concat-append xs ys) ∙ sym (append-assoc x (concat xs) (concat ys))
 
-pub each-append : (xs ys : List View) → entriesEach (xs ++ ys) ≡ entriesEach xs ++ entriesEach ys
-each-append [] ys = refl
-each-append (x ∷ xs) ys = ap (λ (l : List (List Entry)). x .entries ∷ l) (each-append xs ys)
+pub entriesEach-append : (xs ys : List View) → entriesEach (xs ++ ys) ≡ entriesEach xs ++ entriesEach ys
+entriesEach-append [] ys = refl
+entriesEach-append (x ∷ xs) ys = ap (λ (l : List (List Entry)). x .entries ∷ l) (entriesEach-append xs ys)
 
 -- the last of some entriesEach
 pub concat-snoc : (xs : List (List Entry)) (x : List Entry) → concat (xs ++ (x ∷ [])) ≡ concat xs ++ x
@@ -33,7 +33,7 @@ ring-next views u {o} {others} two here e =
     let turn : Ring u views = ring u views here two in
     let rest : List View = allButTwo u views in
     let split : viewAt views (next (length views) u) .entries ∷ entriesEach rest ≡ o ∷ others = sym (ap entriesEach (turn .oldest)) ∙ e in
-    (head-eq-of-cons-eq split, ap entriesEach (turn .newest) ∙ each-append rest (viewAt views u ∷ []) ∙ ap (λ (l : List (List Entry)). l ++ (viewAt views u .entries ∷ [])) (tail-eq-of-cons-eq split))
+    (head-eq-of-cons-eq split, ap entriesEach (turn .newest) ∙ entriesEach-append rest (viewAt views u ∷ []) ∙ ap (λ (l : List (List Entry)). l ++ (viewAt views u .entries ∷ [])) (tail-eq-of-cons-eq split))
 
 -- the history that a finished mount would leave
 unfoldable pub settled : State → List View → List Entry
@@ -116,7 +116,7 @@ module _ (S : ℕ) (T : ℕ → Option Entry) where
       now : entriesIn (endingAt u views) ≡ (o ++ concat others) ++ copies
       now =
           ap entriesIn (ending-last u views (r .is .here)) ∙ entriesIn-each (allBut u views ++ (viewAt views u ∷ []))
-          ∙ ap concat (each-append (allBut u views) (viewAt views u ∷ [])) ∙ concat-snoc (entriesEach (allBut u views)) (viewAt views u .entries)
+          ∙ ap concat (entriesEach-append (allBut u views) (viewAt views u ∷ [])) ∙ concat-snoc (entriesEach (allBut u views)) (viewAt views u .entries)
           ∙ ap (λ (l : List (List Entry)). concat l ++ viewAt views u .entries) (r .held)
           ∙ ap (λ (es : List Entry). (o ++ concat others) ++ es) (r .made)
 

@@ -18,11 +18,12 @@ use Rattle.rules.specs.Reading.{Entry, View, viewOf}
 use Rattle.rules.specs.Meaning.{State, atRest, notReopened, midTurn, viewsOf, viewAt, stateOf, next, allBut, counting, history, lookup, liveEach, needsOf}
 use Rattle.rules.specs.Stores.{Store, format, firstFit, leastTurns, change, valueEntry, deletionEntry}
 use Rattle.rules.specs.Calls.{Due, refuse, make, Refusal, geometry, reserved, empty, tooLong, noRoom, absent, done, cut, answer, inState, inRest, formatOn, mountOn, changeOn, writeOn, deleteOn, atSizes, formatDue, mountDue, writeDue, deleteDue}
-use Rattle.rules.proofs.Basics.Notation.{if-true, if-false, if-cases}
+use Rattle.rules.proofs.Basics.Notation.{if-true, if-false, if-cases, if-either}
 use Rattle.rules.proofs.Format.Ground.{length-pieces, Bounds, legal-bounds}
-use Rattle.rules.proofs.Due.Few.{if-either, IsShort}
+use Rattle.rules.proofs.Due.Few.{IsShort}
 use Rattle.rules.proofs.Due.Bound.{mount-due, change-due}
 use Rattle.rules.proofs.Blocks.Formatted.{length-format}
+use Rattle.rules.proofs.Ring.LiveBySector.{length-liveEach}
 
 -- ---- what an allowance answers
 
@@ -69,11 +70,6 @@ first-fit-below need limit t (n ∷ ns) {k} e =
     (λ r. omega (arith, first-fit-below need limit (suc t) ns (r .1)))
     (if-cases (leb (n + need) limit) _ _ e)
 
-length-live-each : (views : List View) → length (liveEach views) ≡ length views
-unfolding liveEach
-length-live-each [] = refl
-length-live-each (v ∷ vs) = ap suc (length-live-each vs)
-
 length-all-but {ℓ} : {A : Type ℓ} (u : ℕ) (xs : List A) → length (allBut u xs) ≤ length xs
 unfolding allBut
 length-all-but u xs = simp (length-append, length-take, length-drop) (omega arith)
@@ -84,7 +80,7 @@ least-turns-few need limit w views e =
     let u : ℕ = next (length views) w in
     let live = liveEach (allBut u views) in
     omega
-    (arith, first-fit-below need limit 0 (needsOf (viewAt views w .entries) ∷ map needsOf live) e, length-map live needsOf, length-live-each (allBut u views), length-all-but u views)
+    (arith, first-fit-below need limit 0 (needsOf (viewAt views w .entries) ∷ map needsOf live) e, length-map live needsOf, length-liveEach (allBut u views), length-all-but u views)
 
 -- ---- the calls on an image
 

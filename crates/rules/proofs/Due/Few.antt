@@ -2,13 +2,13 @@
 -- an entry counts only where its need leaves blocks over, so its head alone bounds its data.
 -- Assumes nothing.
 use mathlib.Core.Path.{_≡_, refl}
-use mathlib.Core.Bool.{Bool, true, false}
+use mathlib.Core.Bool.{true}
 use mathlib.Core.List.{List, [], _∷_}
 use Prim.Native.Nat.{ℕ, zero, suc, _+_, _-_, _≤_}
 use native.Mathlib.Omega.{arith}
-use lib.ListN.{length, getD, take, drop, length-take}
+use lib.ListN.{length, getD, drop, length-take}
 use borrow.Author.Tests.{leb-true}
-use Rattle.rules.specs.Notation.{if_then_else_, Each, empty, each}
+use Rattle.rules.specs.Notation.{Each, empty, each}
 use Rattle.rules.specs.Ground.{Sector, Image, keptFromValues}
 use Rattle.rules.specs.Entry.{cycleOf}
 use Rattle.rules.specs.Look.{Head, done, deletion, value, Scan, start, after, dataOf, needOf, isWithin, Verdict, entry, blank, otherCycle, wrongCheck, wrongForm, overLimit, look}
@@ -16,25 +16,8 @@ use Rattle.rules.specs.Reading.{Entry, entryAt, entriesBelow, entriesOf,
 use Rattle.rules.specs.Meaning.{viewsOf, allBut, entriesIn, liveAmong, liveEach}
 use Rattle.rules.specs.Stores.{survivors}
 use Rattle.rules.proofs.Format.Look.{look-entry}
-use Rattle.rules.proofs.Crash.Cuts.{each-append}
-
--- what holds of the branch that is taken holds of the choice
-pub if-either {ℓ κ} : {A : Type ℓ} (P : A → Type κ) (b : Bool) {x y : A} → (b ≡ true → P x) → (b ≡ false → P y) → P (if b then x else y)
-unfolding if_then_else_
-if-either P true px py = px refl
-if-either P false px py = py refl
-
--- what holds of each holds of each in a part
-module _ {ℓ κ} {A : Type ℓ} {P : A → Type κ} where
-  each-take : (n : ℕ) {xs : List A} → Each P xs → Each P (take n xs)
-  each-take zero ps = empty
-  each-take (suc n) empty = empty
-  each-take (suc n) (each p ps) = each p (each-take n ps)
-
-  each-drop : (n : ℕ) {xs : List A} → Each P xs → Each P (drop n xs)
-  each-drop zero ps = ps
-  each-drop (suc n) empty = empty
-  each-drop (suc n) (each p ps) = each-drop n ps
+use Rattle.rules.proofs.Basics.Parts.{each-take, each-drop, each-append}
+use Rattle.rules.proofs.Basics.Notation.{if-either}
 
 -- an entry of no more data blocks than the largest sector has, and at most so many of such
 abbrev pub IsShort : Entry → Type 0

@@ -1,6 +1,6 @@
 -- Laws of an ID's entries: which they are in a history that is put together, and which of them tells.
 use mathlib.Core.Path.{_≡_, refl, sym, ap, subst, _∙_}
-use mathlib.Core.Bool.{Bool, true, false, _||_, or-assoc, or-true, or-false, false≢true, true≢false}
+use mathlib.Core.Bool.{Bool, true, false, _||_, or-true, or-false, false≢true, true≢false}
 use mathlib.Core.List.{List, [], _∷_, _++_, append-assoc, reverse-append}
 use mathlib.Core.Option.{none, some}
 use Prim.Native.Nat.{ℕ}
@@ -12,18 +12,10 @@ use Rattle.rules.specs.Reading.{Entry}
 use Rattle.rules.specs.Meaning.{isNamed, isValue, changesOf, newestValue, lookup}
 use Rattle.rules.specs.Stores.{doneEntry}
 use Rattle.rules.proofs.Basics.Notation.{if-true, if-false, when-true, when-some, refuted}
-
--- by the two answers of a test
-pub by-test {ℓ} : {A : Type ℓ} (b : Bool) → (b ≡ true → A) → (b ≡ false → A) → A
-by-test true t f = t refl
-by-test false t f = f refl
+use Rattle.rules.proofs.Basics.Notation.{by-test}
+use Rattle.rules.proofs.Basics.Places.{any-append}
 
 module _ {ℓ} {A : Type ℓ} (test : A → Bool) where
-  pub any-append : (xs ys : List A) → any test (xs ++ ys) ≡ (any test xs || any test ys)
-  unfolding any
-  any-append [] ys = refl
-  any-append (x ∷ xs) ys = ap (λ (b : Bool). test x || b) (any-append xs ys) ∙ sym (or-assoc (test x) (any test xs) (any test ys))
-
   pub select-append : (xs ys : List A) → select test (xs ++ ys) ≡ select test xs ++ select test ys
   unfolding select
   select-append [] ys = refl

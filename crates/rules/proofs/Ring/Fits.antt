@@ -12,8 +12,8 @@ use Rattle.rules.specs.Notation.{Each, empty, each}
 use Rattle.rules.specs.Reading.{Entry, View}
 use Rattle.rules.specs.Meaning.{atRest, viewAt, counting, liveEach, needsOf}
 use Rattle.rules.specs.Stores.{firstFit, leastTurns}
-use Rattle.rules.proofs.Basics.Notation.{if-true, if-false}
-use Rattle.rules.proofs.Ring.Changes.{by-test}
+use Rattle.rules.proofs.Basics.Notation.{if-true, if-false, by-test}
+use Rattle.rules.proofs.Ring.LiveBySector.{length-liveEach}
 
 -- k is the least place, counted from t, whose needs leave room.
 pub record IsFirstFit (need limit t : ℕ) (ns : List ℕ) (k : ℕ) : Type 0 where
@@ -101,11 +101,6 @@ module _ {ℓ κ ι} {A : Type ℓ} {B : Type κ} (P : B → Type ι) (f : A →
   map-each [] empty = empty
   map-each (x ∷ xs) (each p ps) = each p (map-each xs ps)
 
-pub length-live : (vs : List View) → length (liveEach vs) ≡ length vs
-unfolding liveEach
-length-live [] = refl
-length-live (v ∷ vs) = ap suc (length-live vs)
-
 -- In the terms of the turns: the needs of the open sector after no turn, after one, and so on.
 abbrev pub openNeeds : (w : ℕ) → List View → List ℕ
 openNeeds w views = needsOf (viewAt views w .entries) ∷ map needsOf (liveEach (counting (atRest w) views))
@@ -123,7 +118,7 @@ pub record IsLeast (need limit w : ℕ) (views : List View) (turns : ℕ) : Type
 
 module _ (need limit w : ℕ) (views : List View) where
   counted : length (openNeeds w views) ≡ suc (length (counting (atRest w) views))
-  counted = ap suc (length-map (liveEach (counting (atRest w) views)) needsOf ∙ length-live (counting (atRest w) views))
+  counted = ap suc (length-map (liveEach (counting (atRest w) views)) needsOf ∙ length-liveEach (counting (atRest w) views))
 
   pub none-room : leastTurns need limit w views ≡ none → IsNoRoom need limit w views
   unfolding leastTurns

@@ -11,8 +11,8 @@ use Rattle.rules.specs.Notation.{if_then_else_, when, select, Each, empt
 use Rattle.rules.specs.Look.{Head, done, deletion, value}
 use Rattle.rules.specs.Reading.{Entry}
 use Rattle.rules.specs.Meaning.{isNamed, isValue, changesOf, lookup, isRenewed, liveAmong, needsOf}
-use Rattle.rules.proofs.Basics.Notation.{if-true, if-false, when-true, when-false, both-true, refuted}
-use Rattle.rules.proofs.Ring.Changes.{by-test, areNamed, named-left, named-right, unnamed-both, unnamed-parts, changes-empty, changes-named, changes-other, changes-cons, changes-unnamed, lookup-silent, lookup-renewed, lookup-empty, lookup-unnamed, lookup-other, lookup-named, IsValueOf, named-value, IsTold, lookup-here, lookup-further, place-lookup}
+use Rattle.rules.proofs.Basics.Notation.{if-true, if-false, when-true, when-false, both-true, refuted, by-test}
+use Rattle.rules.proofs.Ring.Changes.{areNamed, named-left, named-right, unnamed-both, unnamed-parts, changes-empty, changes-named, changes-other, changes-cons, changes-unnamed, lookup-silent, lookup-renewed, lookup-empty, lookup-unnamed, lookup-other, lookup-named, IsValueOf, named-value, IsTold, lookup-here, lookup-further, place-lookup}
 
 -- "A value is live if it is its ID's newest entry": the test that picks it, and what the test finds.
 abbrev pub isLive : Entry → (later : List Entry) → Bool

@@ -13,7 +13,8 @@ use Rattle.rules.specs.Notation.{Each}
 use Rattle.rules.specs.Reading.{View}
 use Rattle.rules.specs.Meaning.{noView, viewAt, allBut, entriesIn, liveAmong, liveEach, needsOf, newerThan, liveIn}
 use Rattle.rules.proofs.Basics.Notation.{if-true, if-false}
-use Rattle.rules.proofs.Basics.Places.{each-at, at-each}
+use Rattle.rules.proofs.Basics.Places.{at-each}
+use Rattle.rules.proofs.Basics.Parts.{each-at}
 use Rattle.rules.proofs.Ring.Order.{length-allBut}
 
 pub length-liveEach : (views : List View) → length (liveEach views) ≡ length views
@@ -85,7 +86,7 @@ module _ {κ} (P : ℕ → Type κ) (u : ℕ) (views : List View) (here : u < le
       → (s : ℕ) → s < length views → (s ≡ u → ⊥) → P (needsOf (liveIn u s views))
   ring-sectors all s h other =
       let (k, below, same) = place-of u views here s h other in
-      subst P (needs-at k ∙ ap needsOf same) (each-at P (needsOf []) all k (omega (arith, needs-length)))
+      subst P (needs-at k ∙ ap needsOf same) (each-at all k (needsOf []) (omega (arith, needs-length)))
 
   pub sectors-ring : ((s : ℕ) → s < length views → (s ≡ u → ⊥) → P (needsOf (liveIn u s views)))
       → Each P (map needsOf (liveEach (allBut u views)))

@@ -12,9 +12,11 @@ use Rattle.rules.specs.Look.{Head, done, deletion, value, needOf}
 use Rattle.rules.specs.Reading.{Entry, View}
 use Rattle.rules.specs.Meaning.{isNamed, isValue, changesOf, newestValue, lookup, isRenewed, liveAmong, liveEach, entriesIn, needsOf}
 use Rattle.rules.specs.Stores.{doneEntry}
-use Rattle.rules.proofs.Basics.Notation.{when-true, when-false}
-use Rattle.rules.proofs.Ring.Changes.{by-test, any-append, areNamed, named-right, unnamed-done, changes-append, changes-silent, unnamed-changes, changes-unnamed, lookup-renewed}
+use Rattle.rules.proofs.Basics.Notation.{when-true, when-false, by-test}
+use Rattle.rules.proofs.Ring.Changes.{areNamed, named-right, unnamed-done, changes-append, changes-silent, unnamed-changes, changes-unnamed, lookup-renewed}
 use Rattle.rules.proofs.Ring.Live.{isLive, live-kept, live-dropped, live-cases, live-empty, live-append, listed, live-renewed, live-changes, live-again}
+use Rattle.rules.proofs.Ring.History.{entriesIn-append}
+use Rattle.rules.proofs.Basics.Places.{any-append}
 
 -- what a turn writes: the live values of the oldest sector, `rest` being the entries of the others, and done
 abbrev pub copied : (oldest rest : List Entry) → List Entry
@@ -102,11 +104,6 @@ module _ (o r : List Entry) where
       ∙ simp (live-again o r (doneEntry ∷ []) unnamed-done, live-dropped doneEntry [] [] refl, live-empty, append-nil)
 
 -- The same on rings, oldest sector first.
-pub entries-append : (xs ys : List View) → entriesIn (xs ++ ys) ≡ entriesIn xs ++ entriesIn ys
-unfolding entriesIn
-entries-append [] ys = refl
-entries-append (x ∷ xs) ys = ap (λ (l : List Entry). x .entries ++ l) (entries-append xs ys) ∙ sym (append-assoc (x .entries) (entriesIn xs) (entriesIn ys))
-
 pub needs-append : (xs ys : List Entry) → needsOf (xs ++ ys) ≡ needsOf xs + needsOf ys
 unfolding needsOf
 needs-append [] ys = omega arith
@@ -120,7 +117,7 @@ live-oldest o vs = refl
 module _ (o : View) (vs : List View) (v : View) (is : v .entries ≡ copied (o .entries) (entriesIn vs)) where
   with-copies : (xs : List View) → entriesIn (xs ++ (v ∷ [])) ≡ entriesIn xs ++ copied (o .entries) (entriesIn vs)
   unfolding entriesIn
-  with-copies xs = simp (entries-append xs (v ∷ []), is, append-nil)
+  with-copies xs = simp (entriesIn-append xs (v ∷ []), is, append-nil)
 
   pub ring-copied : (id : ℕ) → lookup id (entriesIn (o ∷ (vs ++ (v ∷ [])))) ≡ lookup id (entriesIn (o ∷ vs))
   unfolding entriesIn
@@ -134,7 +131,7 @@ module _ (o : View) (vs : List View) (v : View) (is : v .entries ≡ copied (o .
   unfolding liveEach entriesIn
   rest-live before [] placed = ap (λ (l : List Entry). liveAmong l [] ∷ []) is ∙ ap (λ (l : List Entry). l ∷ []) (live-copied (o .entries) (entriesIn vs))
   rest-live before (x ∷ xs) placed =
-      let older : entriesIn vs ≡ entriesIn before ++ (x .entries ++ entriesIn xs) = ap entriesIn placed ∙ entries-append before (x ∷ xs) in
+      let older : entriesIn vs ≡ entriesIn before ++ (x .entries ++ entriesIn xs) = ap entriesIn placed ∙ entriesIn-append before (x ∷ xs) in
       let here : liveAmong (x .entries) (entriesIn (xs ++ (v ∷ []))) ≡ liveAmong (x .entries) (entriesIn xs) =
       ap (liveAmong (x .entries)) (with-copies xs) ∙ live-stays (o .entries) (entriesIn vs) (entriesIn before) (x .entries) (entriesIn xs) older in
       ap₂ (λ (l : List Entry) (ls : List (List Entry)). l ∷ ls) here (rest-live (before ++ (x ∷ [])) xs (placed ∙ sym (append-assoc before (x ∷ []) xs)))
