@@ -16,3 +16,4 @@ pub mod Stored
 pub mod OnBytes
 pub mod Formatted
 pub mod FormattedViews
+pub mod Lying

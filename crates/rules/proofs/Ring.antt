@@ -8,3 +8,4 @@ pub mod Changes
 pub mod Live
 pub mod Turns
 pub mod Fits
+pub mod Newest

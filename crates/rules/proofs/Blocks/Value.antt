@@ -20,7 +20,7 @@ use Rattle.rules.proofs.Basics.Notation.{if-true, if-false, number-byte
 use Rattle.rules.proofs.Format.Checksum.{crc32-below}
 
 -- pieces put together again
-concat-pieces : (n k : ℕ) (xs : List ℕ) → concat (pieces n k xs) ≡ take (n * k) xs
+pub concat-pieces : (n k : ℕ) (xs : List ℕ) → concat (pieces n k xs) ≡ take (n * k) xs
 unfolding concat pieces
 concat-pieces zero k xs = simp zero-mul
 concat-pieces (suc n) k xs =

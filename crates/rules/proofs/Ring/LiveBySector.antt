@@ -30,6 +30,22 @@ live-at (v ∷ vs) zero h = refl
 live-at (v ∷ vs) (suc k) h = live-at vs k (le-of-suc-le-suc h)
 
 module _ (u : ℕ) (views : List View) (here : u < length views) where
+  -- which sector stands at place k: those behind u first, then those before it
+  pub view-behind : (k s : ℕ) → s ≡ suc u + k → s < length views → viewAt (allBut u views) k ≡ viewAt views s
+  unfolding allBut viewAt
+  view-behind k s e h =
+      let behind : List View = drop (suc u) views in
+      let sized : length behind ≡ length views - suc u = length-drop (suc u) views in
+      List·getD-append behind (take u views) noView k (omega arith) ∙ getD-drop (suc u) views k noView ∙ ap (λ (n : ℕ). getD views n noView) (sym e)
+
+  pub view-before : (k s : ℕ) → k ≡ length views - suc u + s → s < u → viewAt (allBut u views) k ≡ viewAt views s
+  unfolding allBut viewAt
+  view-before k s e h =
+      let behind : List View = drop (suc u) views in
+      let sized : length behind ≡ length views - suc u = length-drop (suc u) views in
+      let place : k ≡ length behind + s = omega arith in
+      ap (λ (n : ℕ). getD (behind ++ take u views) n noView) place ∙ getD-append-add behind (take u views) s noView ∙ getD-take u views s noView h
+
   -- sector s has place k where it stands there, and what follows is what is newer
   placed : (k s : ℕ) → k < length views - 1 → viewAt (allBut u views) k ≡ viewAt views s → drop (suc k) (allBut u views) ≡ newerThan u s views
       → getD (liveEach (allBut u views)) k [] ≡ liveIn u s views
@@ -39,24 +55,21 @@ module _ (u : ℕ) (views : List View) (here : u < length views) where
       live-at (allBut u views) k below ∙ simp (view, newer)
 
   live-behind : (k s : ℕ) → s ≡ suc u + k → s < length views → getD (liveEach (allBut u views)) k [] ≡ liveIn u s views
-  unfolding newerThan allBut viewAt
+  unfolding newerThan allBut
   live-behind k s e h =
       let behind : List View = drop (suc u) views in
       let sized : length behind ≡ length views - suc u = length-drop (suc u) views in
       let after : suc u + suc k ≡ suc s = omega arith in
-      placed k s (omega arith)
-      (List·getD-append behind (take u views) noView k (omega arith) ∙ getD-drop (suc u) views k noView ∙ ap (λ (n : ℕ). getD views n noView) (sym e))
+      placed k s (omega arith) (view-behind k s e h)
       (drop-append-le (suc k) behind (take u views) (omega arith) ∙ simp (drop-drop (suc k) (suc u) views, after, lt-ltb u s (omega arith), if-true))
 
   live-before : (k s : ℕ) → k ≡ length views - suc u + s → s < u → getD (liveEach (allBut u views)) k [] ≡ liveIn u s views
-  unfolding newerThan allBut viewAt
+  unfolding newerThan allBut
   live-before k s e h =
       let behind : List View = drop (suc u) views in
       let sized : length behind ≡ length views - suc u = length-drop (suc u) views in
-      let place : k ≡ length behind + s = omega arith in
       let after : suc k ≡ length behind + suc s = omega arith in
-      placed k s (omega arith)
-      (ap (λ (n : ℕ). getD (behind ++ take u views) n noView) place ∙ getD-append-add behind (take u views) s noView ∙ getD-take u views s noView h)
+      placed k s (omega arith) (view-before k s e h)
       (ap (λ (n : ℕ). drop n (behind ++ take u views)) after ∙ drop-append-add behind (take u views) (suc s) ∙ simp (le-ltb u s (omega arith), if-false))
 
   -- Every sector but u has a place in the ring, and every place is that of such a sector.

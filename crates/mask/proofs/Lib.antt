@@ -1,0 +1,3 @@
+-- The laws of masks: `Laws` is for callers, `Word` for the proofs of this crate.
+pub mod Word
+pub mod Laws

@@ -1,0 +1,2 @@
+-- What the contracts of `mask` cite, besides the definitions of `rules`.
+pub mod Flags
