@@ -3,10 +3,10 @@
 use mathlib.Core.Path.{_≡_, refl, sym, ap, _∙_}
 use mathlib.Core.List.{List, [], _∷_, _++_, map, append-nil}
 use Prim.Native.Nat.{ℕ, zero, suc, _+_, _-_, _≤_, _<_}
-use native.Mathlib.Nat.{le-of-suc-le-suc, not-suc-le-zero, add-suc}
+use native.Mathlib.Nat.{le-of-suc-le-suc, not-suc-le-zero, add-suc, sub-zero, zero-sub, suc-sub-suc}
 use native.Mathlib.Omega.{arith}
 use lib.ListN.{length, getD, set, take, drop, length-drop, drop-of-length-le}
-use lib.Seq.{take-all, drop-cons, sets, sets-eq, paste, take-length, length-take-le, take-take, take-set-le, drop-set-lt, take-set-lt, drop-set-add}
+use lib.Seq.{take-all, take-nil, drop-cons, sets, sets-eq, paste, take-length, length-take-le, take-take, take-set-le, drop-set-lt, take-set-lt, drop-set-add}
 
 module _ {ℓ} {A : Type ℓ} where
   -- ---- a part of a part
@@ -24,6 +24,14 @@ module _ {ℓ} {A : Type ℓ} where
   -- what is left from place m on
   pub part-to-end : (m : ℕ) (l : List A) → take (length l - m) (drop m l) ≡ drop m l
   part-to-end m l = take-all (length l - m) (drop m l) (omega (arith, length-drop m l))
+
+  -- the first n of one list after another
+  pub take-append : (n : ℕ) (xs ys : List A) → take n (xs ++ ys) ≡ take n xs ++ take (n - length xs) ys
+  take-append n [] ys = ap (λ (m : ℕ). take m ys) (sym (sub-zero n)) ∙ ap (λ (l : List A). l ++ take (n - 0) ys) (sym (take-nil n))
+  take-append zero (x ∷ xs) ys = ap (λ (m : ℕ). take m ys) (sym (zero-sub (suc (length xs))))
+  take-append (suc n) (x ∷ xs) ys =
+      ap (λ (l : List A). x ∷ l) (take-append n xs ys)
+      ∙ ap (λ (m : ℕ). x ∷ (take n xs ++ take m ys)) (sym (suc-sub-suc n (length xs)))
 
   -- ---- a list by its elements
 

@@ -1,7 +1,7 @@
 -- Calls on bytes are calls on blocks: what a list of stores leaves, and what a list of calls answers and leaves.
 use mathlib.Core.Path.{_≡_, refl, sym, ap, ap₂, subst, _∙_}
 use mathlib.Core.Bool.{Bool, true, false, _&&_}
-use mathlib.Core.List.{List, [], _∷_, map}
+use mathlib.Core.List.{List, [], _∷_, _++_, map}
 use Prim.Native.Nat.{ℕ, _*_, _/_, _<_}
 use lib.Dec.{ltb, eqb}
 use lib.ListN.{length}
@@ -23,6 +23,11 @@ unfolding applyBytes
 length-stored B [] bytes = refl
 length-stored B (s ∷ ss) bytes =
     length-stored B ss (storeBytes B bytes (s .sector) (s .block) (s .bytes)) ∙ length-store-bytes B bytes (s .sector) (s .block) (s .bytes)
+
+pub stored-append : (B : ℕ) (xs ys : List Store) (bytes : List ℕ) → applyBytes B (xs ++ ys) bytes ≡ applyBytes B ys (applyBytes B xs bytes)
+unfolding applyBytes
+stored-append B [] ys bytes = refl
+stored-append B (x ∷ xs) ys bytes = stored-append B xs ys _
 
 -- Sixteen numbers stored at a block of the image: whether they are bytes does not matter here.
 pub record Lies (B S : ℕ) (s : Store) : Type 0 where

@@ -1,6 +1,6 @@
 -- Laws of an ID's entries: which they are in a history that is put together, and which of them tells.
 use mathlib.Core.Path.{_≡_, refl, sym, ap, subst, _∙_}
-use mathlib.Core.Bool.{Bool, true, false, _||_, or-true, or-false, false≢true, true≢false}
+use mathlib.Core.Bool.{Bool, true, false, _||_, or-true, or-false, false≢true}
 use mathlib.Core.List.{List, [], _∷_, _++_, append-assoc, reverse-append}
 use mathlib.Core.Option.{none, some}
 use Prim.Native.Nat.{ℕ}
@@ -11,7 +11,7 @@ use Rattle.rules.specs.Look.{Head, done, deletion, value}
 use Rattle.rules.specs.Reading.{Entry}
 use Rattle.rules.specs.Meaning.{isNamed, isValue, changesOf, newestValue, lookup}
 use Rattle.rules.specs.Stores.{doneEntry}
-use Rattle.rules.proofs.Basics.Notation.{if-true, if-false, when-true, when-some, refuted}
+use Rattle.rules.proofs.Basics.Notation.{both-false, if-true, if-false, when-true, when-some, refuted}
 use Rattle.rules.proofs.Basics.Notation.{by-test}
 use Rattle.rules.proofs.Basics.Places.{any-append}
 
@@ -20,10 +20,6 @@ module _ {ℓ} {A : Type ℓ} (test : A → Bool) where
   unfolding select
   select-append [] ys = refl
   select-append (x ∷ xs) ys = by-test (test x) (λ t. simp (t, if-true, select-append xs ys)) (λ f. simp (f, if-false, select-append xs ys))
-
-both-false : (a b : Bool) → (a || b) ≡ false → (a ≡ false) × (b ≡ false)
-both-false true b e = absurd (true≢false e)
-both-false false b e = (refl, e)
 
 -- does one of these entries name the ID?
 abbrev pub areNamed : (id : ℕ) → List Entry → Bool

@@ -1,0 +1,136 @@
+-- `sector::take_entries`. The loop's invariant: the reading stands at block `at`. By the place of data and entries there is a
+-- block left after every entry, so a block that is none ends the loop.
+-- Assumes nothing.
+use mathlib.Core.Path.{_≡_, refl, sym, ap, _∙_, subst}
+use mathlib.Core.Bool.{false}
+use mathlib.Core.List.{List, [], _∷_}
+use Prim.Native.Nat.{ℕ}
+use native.Mathlib.Omega.{arith}
+use lib.ListN.{getD}
+use types.Run.{OneOf, miss}
+use denote.Enum.Declared.{tagOf}
+use borrow.Author.Needs.{needs}
+use Rattle.rules.specs.Ground.{sectorOf}
+use Rattle.rules.specs.Look as rule
+use Rattle.rules.specs.Look.{after, look, isEntry}
+use Rattle.layout.specs.Geometry.{blocksOf}
+use Rattle.layout.specs.Numbers.{blockNo}
+use Rattle.entry.specs.declared.Verdict.{Verdict}
+use Rattle.entry.proofs.Verdict.{the-type}
+use Rattle.entry.specs.Answer.{scanOf, verdictAs}
+use Rattle.sector.proofs.Answers.{BlockRead, block-read, is-entry}
+use Rattle.sector.proofs.Standing.{Standing, stand-start, stand-below, stand-left, stand-next, stand-end}
+use Rattle.sector.proofs.Laws.{stand-bounded}
+use Rattle.sector.proofs.take_entries.Statement.{statement}
+use Rattle.sector.proofs.take_entries.Tie as tie
+
+abbrev Inv-loop : tie.InvT-loop
+Inv-loop sector g cycle blocks first scan₀ at₀ scan at = Standing (blocksOf g) cycle (sectorOf (blocksOf g) sector) (scanOf scan) at
+
+abbrev μ-loop : tie.MeasureT-loop
+μ-loop sector g cycle blocks first scan₀ at₀ scan at = at
+
+-- by their numbers, the verdicts that are no entry
+abbrev others : List ℕ
+others = 1 ∷ 2 ∷ 3 ∷ 4 ∷ 5 ∷ []
+
+no-entry : (before : rule.Scan) (v : rule.Verdict) → OneOf others (tagOf the-type (verdictAs before v)) → isEntry v ≡ false
+unfolding isEntry
+no-entry before (rule.entry head) told = absurd (miss others 0 tt told)
+no-entry before rule.blank told = refl
+no-entry before rule.otherCycle told = refl
+no-entry before rule.wrongCheck told = refl
+no-entry before rule.wrongForm told = refl
+no-entry before rule.overLimit told = refl
+
+-- what was read is block `at`
+block-there : (c : tie.After-block-bytes Inv-loop μ-loop)
+    → let k = c .before .before .before .before .before .before in
+    BlockRead (blocksOf (k .args .g)) (k .args .sector .now) (c .before .before .loop .at) (c .block-bytes .result .now)
+block-there c =
+    let k = c .before .before .before .before .before .before in
+    block-read _ _ _ (omega (arith, stand-below (c .before .before .loop .inv))) (k .pre .1) (c .before .new .ensures) (c .block-bytes .ensures)
+
+-- the rules' verdict on that block, and the answer for it
+abbrev verdictOn : tie.After-block Inv-loop μ-loop → rule.Verdict
+verdictOn c =
+    let k = c .before .before .before .before .before .before .before in
+    let B : ℕ = blocksOf (k .args .g) in
+    look B (k .args .cycle) (scanOf (c .before .before .before .loop .scan)) (getD (sectorOf B (k .args .sector .now)) (c .before .before .before .loop .at) [])
+
+judged : (c : tie.After-block Inv-loop μ-loop) → c .block .result ≡ verdictAs (scanOf (c .before .before .before .loop .scan)) (verdictOn c)
+judged c = rw (block-there (c .before) .block) at (c .block .ensures)
+
+-- an entry was found there
+found : (c : tie.After-known-told Inv-loop μ-loop)
+    → let s = scanOf (c .before .before .before .before .before .before .loop .scan) in
+    (h : rule.Head) × (verdictOn (c .before .before .before) ≡ rule.entry h) × (scanOf (c .before .verdict .given .0 .1 .0) ≡ after s h)
+found c = is-entry _ _ (sym (judged (c .before .before .before)) ∙ c .before .verdict .given .1)
+
+blocks-requires : tie.Need-blocks-requires Inv-loop μ-loop
+blocks-requires c κs = search needs
+
+sub-first : tie.Need-sub-first Inv-loop μ-loop
+sub-first c = search needs
+
+start-requires : tie.Need-start-requires Inv-loop μ-loop
+start-requires c κs = search needs
+
+loop-holds : tie.Need-loop-holds Inv-loop μ-loop
+loop-holds c =
+    let k = c .before .before .before in
+    let B : ℕ = blocksOf (k .args .g) in
+    rw (c .start .ensures, c .before .blocks2 .ensures) (stand-start B (k .args .cycle) (sectorOf B (k .args .sector .now)) (k .pre .0 .blocks-from))
+
+new-requires : tie.Need-new-requires Inv-loop μ-loop
+new-requires c κs = search needs
+
+block-bytes-requires : tie.Need-block-bytes-requires Inv-loop μ-loop
+block-bytes-requires c κs =
+    let same : c .new .result .0 ≡ c .before .loop .at = ap blockNo (c .new .ensures) in
+    omega (arith, stand-below (c .before .loop .inv))
+
+block-requires : tie.Need-block-requires Inv-loop μ-loop
+block-requires c κs =
+    let k = c .before .before .before .before .before .before in
+    (block-there c .size, (k .pre .0, stand-bounded (k .pre .0 .blocks-to) (c .before .before .loop .inv) .small))
+
+enum-known-verdict : tie.Need-enum-known-verdict Inv-loop μ-loop
+enum-known-verdict c = search needs
+
+sub-t12 : tie.Need-sub-t12 Inv-loop μ-loop
+sub-t12 c = omega (arith, stand-below (c .before .before .before .before .loop .inv))
+
+returns : tie.Need-returns Inv-loop μ-loop
+returns c =
+    let none = no-entry _ _ (subst (λ (v : Verdict). OneOf others (tagOf the-type v)) (judged (c .before)) (c .match .keys2)) in
+    rw (c .before .before .before .before .before .before .blocks2 .ensures, judged (c .before)) (stand-end (c .before .before .before .before .loop .inv) none)
+
+sub-at : tie.Need-sub-at Inv-loop μ-loop
+sub-at c = stand-left (c .before .before .before .before .before .before .loop .inv) (found c .1)
+
+loop-less : tie.Need-loop-less Inv-loop μ-loop
+loop-less c = omega (arith, stand-left (c .before .before .before .before .before .before .loop .inv) (found c .1))
+
+loop-again : tie.Need-loop-again Inv-loop μ-loop
+loop-again c = rw (found c .2) (stand-next (c .before .before .before .before .before .before .loop .inv) (found c .1))
+
+pub take-entries-spec : {M : Type 1} → statement M
+take-entries-spec =
+    tie.close
+    (tie.spec
+    Inv-loop
+    μ-loop
+    blocks-requires
+    sub-first
+    start-requires
+    loop-holds
+    new-requires
+    block-bytes-requires
+    block-requires
+    enum-known-verdict
+    sub-t12
+    returns
+    sub-at
+    loop-less
+    loop-again)

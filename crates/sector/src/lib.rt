@@ -1,0 +1,76 @@
+// Reads one sector where it lies: its lead, its close, and what its entries come to.
+ghost use mathlib.Core.Path.{_≡_};
+ghost use Prim.Native.Nat.{_*_};
+ghost use lib.ListN.{length};
+ghost use Rattle.rules.specs.Ground.{blockSize, sectorOf};
+ghost use Rattle.layout.specs.Geometry.{blocksOf, Sound};
+ghost use Rattle.sector.specs.Answer.{entriesAs, readingAs};
+use entry::Lead;
+use entry::Scan;
+use entry::Verdict;
+use entry::look;
+use layout::Block;
+use layout::Geometry;
+
+// The entries of a sector: how many there are, from block B-3 downward, what they come to, and the verdict on the block
+// below them, which ended the reading.
+pub struct Entries {
+    pub count: usize,
+    pub scan: Scan,
+    pub ended: Verdict,
+}
+
+// What a sector shows.
+pub struct Content {
+    pub cycle: u8,
+    pub closed: bool,
+    pub entries: Entries,
+}
+
+// The reading of a sector: what it shows, or that it has no right lead.
+pub enum Reading {
+    Led(Content),
+    NoLead,
+}
+
+// "entries are taken from block B-3 downward and the reading ends at the first block that isn't an entry": there is one,
+// since entries and their data never take up all blocks.
+fn take_entries(sector: &[u8], g: Geometry, cycle: u8) -> Entries
+    requires { ⌜ Sound g ⌝ }
+    requires { ⌜ length (now sector) ≡ blocksOf g * blockSize ⌝ }
+    ensures { λ r. ⌜ r ≡ entriesAs (blocksOf g) cycle (sectorOf (blocksOf g) (now (sector .entry))) ⌝ }
+{
+    let blocks = g.blocks();
+    let first = blocks - 3;
+    let mut scan = Scan::start();
+    let mut at = first;
+    loop {
+        let verdict = look::block(layout::block_bytes(sector, Block::new(at)), g, cycle, scan);
+        let Verdict::Entry(_, next) = verdict else {
+            return Entries {
+                count: first - at,
+                scan: scan,
+                ended: verdict,
+            };
+        };
+        scan = next;
+        at -= 1;
+    }
+}
+
+pub fn read(sector: &[u8], g: Geometry) -> Reading
+    requires { ⌜ Sound g ⌝ }
+    requires { ⌜ length (now sector) ≡ blocksOf g * blockSize ⌝ }
+    ensures { λ r. ⌜ r ≡ readingAs (blocksOf g) (sectorOf (blocksOf g) (now (sector .entry))) ⌝ }
+{
+    let blocks = g.blocks();
+    let Lead::Cycle(cycle) = look::lead(layout::block_bytes(sector, Block::new(blocks - 1))) else {
+        return Reading::NoLead;
+    };
+    let closed = look::is_close(layout::block_bytes(sector, Block::new(blocks - 2)), cycle);
+    Reading::Led(Content {
+        cycle: cycle,
+        closed: closed,
+        entries: take_entries(sector, g, cycle),
+    })
+}
