@@ -1,0 +1,5 @@
+-- What callers learn of a survey, and what the proofs of the functions share.
+pub mod Laws
+pub mod Sectors
+pub mod States
+pub mod Surveyed

@@ -1,0 +1,2 @@
+-- The crate's answers for what an image means.
+pub mod Answer
