@@ -6,7 +6,14 @@ pub mod Turning
 pub mod Mounting
 pub mod Changing
 pub mod Effects
+pub mod Leaving
+pub mod Landed
+pub mod Reads
 pub mod Invariant
 pub mod Fresh
 pub mod Resting
 pub mod Demand3
+pub mod ReadBack
+pub mod TurnsShow
+pub mod Pinned
+pub mod Applied

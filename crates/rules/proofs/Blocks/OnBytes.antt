@@ -2,19 +2,52 @@
 use mathlib.Core.Path.{_≡_, refl, sym, ap, ap₂, subst, _∙_}
 use mathlib.Core.Bool.{Bool, true, false, _&&_}
 use mathlib.Core.List.{List, [], _∷_, _++_, map}
-use Prim.Native.Nat.{ℕ, _*_, _/_, _<_}
+use Prim.Native.Nat.{ℕ, _*_, _/_, _<_, zero, suc, _+_}
 use lib.Dec.{ltb, eqb}
-use lib.ListN.{length}
+use lib.ListN.{length, take, drop, length-drop, length-map}
 use borrow.Author.Tests.{ltb-true, eqb-true}
-use Rattle.rules.specs.Notation.{all, Each, empty, each}
-use Rattle.rules.specs.Ground.{Image, blockSize, legalSizes, imageOf, storeBytes}
+use Rattle.rules.specs.Notation.{all, Each, empty, each, pieces}
+use Rattle.rules.specs.Ground.{Image, blockSize, legalSizes, imageOf, storeBytes, sectorOf}
 use Rattle.rules.specs.Stores.{Store, apply, applyBytes}
 use Rattle.rules.specs.Calls.{Due, refuse, Refusal, geometry, Answer, answer, made, atSizes, mountOn, writeOn, deleteOn, mountDue, writeDue, deleteDue, leaves}
 use Rattle.rules.specs.Demands.{Call, mount, write, delete, due, budget, Run, step, run}
 use Rattle.rules.specs.BenchSheet.{answers}
-use Rattle.rules.proofs.Terms.{IsInside}
+use Rattle.rules.proofs.Terms.{IsInside, IsSector, IsImage}
 use Rattle.rules.proofs.Basics.Notation.{both-true, if-true, if-false}
-use Rattle.rules.proofs.Format.Ground.{store-block, length-store-bytes, legal-bounds}
+use Rattle.rules.proofs.Format.Ground.{store-block, length-store-bytes, legal-bounds, length-pieces}
+use native.Mathlib.Nat.{suc-mul}
+use native.Mathlib.Omega.{arith}
+use lib.Seq.{length-take-le}
+use Rattle.rules.proofs.Basics.Parts.{each-take, each-drop}
+use Rattle.rules.proofs.Ring.Fits.{map-each}
+
+-- ---- an image
+
+-- whole pieces of lists that are so are so
+pieces-so : {P : List ℕ → Type 0} (n k : ℕ) (bytes : List ℕ) → Each (λ b. b < 256) bytes → length bytes ≡ n * k
+    → ((piece : List ℕ) → Each (λ b. b < 256) piece → length piece ≡ k → P piece) → Each P (pieces n k bytes)
+unfolding pieces
+pieces-so zero k bytes ok sized so = empty
+pieces-so (suc n) k bytes ok sized so =
+    let whole : length bytes ≡ n * k + k = sized ∙ suc-mul n k in
+    each (so (take k bytes) (each-take k ok) (length-take-le k bytes (omega arith)))
+    (pieces-so n k (drop k bytes) (each-drop k ok) (length-drop k bytes ∙ omega arith) so)
+
+-- the blocks of an image of bytes
+pub image-of-bytes : (B S : ℕ) (bytes : List ℕ) → Each (λ b. b < 256) bytes → length bytes ≡ S * (B * blockSize) → IsImage B S (imageOf B S bytes)
+unfolding imageOf sectorOf
+image-of-bytes B S bytes ok sized =
+    record {
+      sized = length-map (pieces S (B * blockSize) bytes) (λ (piece : List ℕ). pieces B blockSize piece) ∙ length-pieces S (B * blockSize) bytes;
+      sectors =
+          map-each (IsSector B) (λ (piece : List ℕ). pieces B blockSize piece) (pieces S (B * blockSize) bytes)
+          (pieces-so S (B * blockSize) bytes ok sized
+          (λ piece typed whole.
+          record {
+            sized = length-pieces B blockSize piece;
+            blocks = pieces-so B blockSize piece typed whole (λ block bytes′ full. record { sized = full; bytes = bytes′ });
+          }));
+    }
 
 -- ---- stores
 

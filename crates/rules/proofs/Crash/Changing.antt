@@ -27,7 +27,7 @@ use Rattle.rules.proofs.Basics.Notation.{if-true, if-false, by-test}
 use Rattle.rules.proofs.Crash.Standing.{turned, turned-matches, concat-snoc, Stands, Rests, rests-stand, entriesEach-append}
 use Rattle.rules.proofs.Crash.Shifts.{at-size, two-of, sized-changed}
 use Rattle.rules.proofs.Crash.Turning.{image-after, turn-goes}
-use Rattle.rules.proofs.Crash.Mounting.{Settled}
+use Rattle.rules.proofs.Crash.Mounting.{SettledAt}
 
 -- what is told once an entry is the newest
 abbrev pub updated : Entry → (ℕ → Option Entry) → ℕ → Option Entry
@@ -200,10 +200,18 @@ module _ (B S : ℕ) (big : 8 ≤ B) (most : B ≤ 4096) (two : 2 ≤ S) (T : �
   add-goes : (e : Entry) (im : Image) {w : ℕ} {sectors : List (List Entry)}
       → ((id : ℕ) → lookup id (concat sectors) ≡ T id) → IsImage B S im → w < S → Rests S w sectors (viewsOf B im) → IsProper e
       → isWithin B (afterAll start (viewAt (viewsOf B im) w .entries)) (e .head) ≡ true
-      → Goes B S (append B w e) im (Stands S T) (Settled S (updated e T))
+      → Goes B S (append B w e) im (Stands S T) (SettledAt S (updated e T) w)
   add-goes e im {w} {sectors} matches ok here r proper within =
       goes-atomic B S im (append-atomic big most ok here proper within) (rests-stand S T matches r)
-      (record { working = w; ring = xs ++ ((x ++ (e ∷ [])) ∷ []); rests = add-shift S two e r; matches = λ id. ap (lookup id) longer ∙ lookup-added id (concat sectors) e ∙ ap (λ (t : Option Entry). if isNamed id (e .head) then when (isValue (e .head)) e else t) (matches id) })
+      (record {
+        settled = record {
+          working = w;
+          ring = xs ++ ((x ++ (e ∷ [])) ∷ []);
+          rests = add-shift S two e r;
+          matches = λ id. ap (lookup id) longer ∙ lookup-added id (concat sectors) e ∙ ap (λ (t : Option Entry). if isNamed id (e .head) then when (isValue (e .head)) e else t) (matches id);
+        };
+        here = refl;
+      })
     where
       views : List View
       views = viewsOf B im
@@ -224,7 +232,7 @@ module _ (B S : ℕ) (big : 8 ≤ B) (most : B ≤ 4096) (two : 2 ≤ S) (T : �
       → ((scan : Scan) → scan .needs + needOf (e .head) ≤ limit → isWithin B scan (e .head) ≡ true)
       → ((id : ℕ) → lookup id (concat sectors) ≡ T id) → IsImage B S im → w < S → Rests S w sectors (viewsOf B im) → IsProper e
       → leastTurns (needOf (e .head)) limit w (viewsOf B im) ≡ some t
-      → Goes B S (change B S t w e) im (Stands S T) (Settled S (updated e T))
+      → Goes B S (change B S t w e) im (Stands S T) (SettledAt S (updated e T) (moved S t w))
   unfolding change
   change-goes e limit t im {w} {sectors} admits matches ok here r proper least =
       goes-then B S im (turns B S t w) (append B (moved S t w) e) turning

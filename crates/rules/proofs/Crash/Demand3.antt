@@ -1,88 +1,53 @@
 -- Demand 3: after any list of mounts, writes and deletes, each cut anywhere, the image tells what the book says.
 use mathlib.Core.Path.{_≡_, refl, sym, ap, subst, _∙_}
-use mathlib.Core.Bool.{Bool, true, false}
+use mathlib.Core.Bool.{true}
 use mathlib.Core.List.{List, [], _∷_}
 use mathlib.Core.Option.{Option, none, some}
-use Prim.Native.Nat.{ℕ, zero, suc, _+_, _*_, _/_, _<_, _≤_}
-use native.Mathlib.Nat.{suc-mul}
+use Prim.Native.Nat.{ℕ, _/_, _≤_}
 use native.Mathlib.Omega.{arith}
-use lib.Dec.{leb}
-use lib.ListN.{length, take, drop, length-drop, length-map}
-use lib.Seq.{take-all, length-take-le}
-use borrow.Author.Tests.{leb-true, leb-false}
-use Rattle.rules.specs.Notation.{pieces, Each, empty, each}
-use Rattle.rules.specs.Ground.{Image, blockSize, legalSizes, sectorOf, imageOf}
+use lib.ListN.{length, take}
+use lib.Seq.{take-all}
+use Rattle.rules.specs.Notation.{Each, each}
+use Rattle.rules.specs.Ground.{Image, blockSize, legalSizes, imageOf}
 use Rattle.rules.specs.Reading.{Entry}
 use Rattle.rules.specs.Meaning.{State, atRest, notReopened, midTurn, viewsOf, stateOf}
 use Rattle.rules.specs.Stores.{Store, Plan, apply, mount, format}
-use Rattle.rules.specs.Calls.{Answer, Due, refuse, make, geometry, answer, answerNumbers, refusalNumber, made, formatOn, formatDue, mountTurns, mountOn, mountDue, inState, leaves}
+use Rattle.rules.specs.Calls.{Due, refuse, make, answer, answerNumbers, made, formatOn, formatDue, mountTurns, mountOn, mountDue, inState, leaves}
 use Rattle.rules.specs.Demands.{Call, Typed, AreBytes, emptyModel, Run, step, run, views, Matches, matchesNothing, AtRest, Succeeds, Holds, Demand3}
-use Rattle.rules.proofs.Terms.{IsSector, IsImage, IsInside}
-use Rattle.rules.proofs.Basics.Parts.{each-take, each-drop}
-use Rattle.rules.proofs.Format.Ground.{Bounds, legal-bounds, length-pieces}
+use Rattle.rules.proofs.Terms.{IsImage, IsInside}
+use Rattle.rules.proofs.Basics.Parts.{each-take}
+use Rattle.rules.proofs.Format.Ground.{Bounds, legal-bounds}
 use Rattle.rules.proofs.Blocks.OnImage.{apply-image}
 use Rattle.rules.proofs.Ring.States.{is-state}
-use Rattle.rules.proofs.Due.Calls.{answer-cut, mount-coverable}
-use Rattle.rules.proofs.Ring.Fits.{map-each}
-use Rattle.rules.proofs.Blocks.OnBytes.{HasBlocks, call-on, call-off, leaves-on, inside-lie}
+use Rattle.rules.proofs.Due.Calls.{mount-coverable}
+use Rattle.rules.proofs.Blocks.OnBytes.{HasBlocks, call-on, leaves-on, inside-lie, image-of-bytes}
 use Rattle.rules.proofs.Crash.Cuts.{Goes}
 use Rattle.rules.proofs.Crash.Standing.{Stands, rests-stand}
-use Rattle.rules.proofs.Crash.Mounting.{Settled, mount-goes}
+use Rattle.rules.proofs.Crash.Mounting.{Settled, SettledAt, worksAfter, mount-goes}
 use Rattle.rules.proofs.Blocks.Formatted.{format-inside}
 use Rattle.rules.proofs.Crash.Fresh.{format-stands}
+use Rattle.rules.proofs.Crash.Landed.{Lands, landed-enough, format-legal}
 use Rattle.rules.proofs.Crash.Invariant.{Invariant, kept-by-call}
 use Rattle.rules.proofs.Crash.Resting.{succeeds-of, rest-holds}
-use Rattle.rules.proofs.Basics.Notation.{by-test}
-
--- whole pieces of lists that are so are so
-pieces-so : {P : List ℕ → Type 0} (n k : ℕ) (bytes : List ℕ) → Each (λ b. b < 256) bytes → length bytes ≡ n * k
-    → ((piece : List ℕ) → Each (λ b. b < 256) piece → length piece ≡ k → P piece) → Each P (pieces n k bytes)
-unfolding pieces
-pieces-so zero k bytes ok sized so = empty
-pieces-so (suc n) k bytes ok sized so =
-    let whole : length bytes ≡ n * k + k = sized ∙ suc-mul n k in
-    each (so (take k bytes) (each-take k ok) (length-take-le k bytes (omega arith)))
-    (pieces-so n k (drop k bytes) (each-drop k ok) (length-drop k bytes ∙ omega arith) so)
-
--- the blocks of an image of bytes
-pub image-of-bytes : (B S : ℕ) (bytes : List ℕ) → Each (λ b. b < 256) bytes → length bytes ≡ S * (B * blockSize) → IsImage B S (imageOf B S bytes)
-unfolding imageOf sectorOf
-image-of-bytes B S bytes ok sized =
-    record {
-      sized = length-map (pieces S (B * blockSize) bytes) (λ (piece : List ℕ). pieces B blockSize piece) ∙ length-pieces S (B * blockSize) bytes;
-      sectors =
-          map-each (IsSector B) (λ (piece : List ℕ). pieces B blockSize piece) (pieces S (B * blockSize) bytes)
-          (pieces-so S (B * blockSize) bytes ok sized
-          (λ piece typed whole.
-          record {
-            sized = length-pieces B blockSize piece;
-            blocks = pieces-so B blockSize piece typed whole (λ block bytes′ full. record { sized = full; bytes = bytes′ });
-          }));
-    }
 
 -- what a format is due
 format-on : (size count : ℕ) (bytes : List ℕ) → legalSizes size count (length bytes) ≡ true → formatDue size count bytes ≡ make (format (size / blockSize) count) 0
 unfolding formatDue formatOn
 format-on size count bytes legal = call-on size count (record { legal = legal; blocks = refl }) refuse (λ B S i. formatOn B S i)
 
-format-off : (size count : ℕ) (bytes : List ℕ) → legalSizes size count (length bytes) ≡ false → formatDue size count bytes ≡ refuse geometry
-unfolding formatDue
-format-off size count bytes off = call-off size count bytes off refuse (λ B S i. formatOn B S i)
-
-one-zero : (a : ℕ) → answerNumbers (answer (refuse geometry) a) .number ≡ 0 → ⊥
-unfolding answer answerNumbers refusalNumber
-one-zero a e = omega arith
-
-cut-zero : (stores : List Store) (a : ℕ) → leb (length stores) a ≡ false → answerNumbers (answer (make stores 0) a) .number ≡ 0 → ⊥
-unfolding answerNumbers
-cut-zero stores a short e =
-    let n : _≡_ {A = ℕ} 11 0 = sym (ap (λ (x : Answer). answerNumbers x .number) (answer-cut stores 0 a (leb-false (length stores) a short))) ∙ e in omega arith
-
 -- A format that gave 0 leaves the invariant, with an empty book.
 pub kept-by-format : (size count : ℕ) (bytes : List ℕ) (a : ℕ) → AreBytes bytes → answerNumbers (answer (formatDue size count bytes) a) .number ≡ 0
     → Invariant size count (leaves size (formatDue size count bytes) a bytes) emptyModel
 unfolding AreBytes made views emptyModel
-kept-by-format size count bytes a ok given = by-test (legalSizes size count (length bytes)) (λ legal. by-allowance legal (leb (length (format (size / blockSize) count)) a) refl) illegal
+kept-by-format size count bytes a ok lands =
+    subst (λ (d : Due). Invariant size count (leaves size d a bytes) emptyModel) (sym is)
+    (record {
+      legal = left .legal;
+      whole = subst (IsImage B count) (sym (left .blocks)) (apply-image inside ok-image);
+      current = λ id. none;
+      stands = subst (λ (i : Image). Stands count (λ id. none) (viewsOf B i)) (sym (left .blocks ∙ ap (λ (ss : List Store). apply ss im) all)) fresh;
+      matches = λ id user. matchesNothing;
+    })
   where
     B : ℕ
     B = size / blockSize
@@ -90,44 +55,29 @@ kept-by-format size count bytes a ok given = by-test (legalSizes size count (len
     im : Image
     im = imageOf B count bytes
 
-    due : Due
-    due = formatDue size count bytes
+    legal : legalSizes size count (length bytes) ≡ true
+    legal = format-legal size count bytes a lands
 
-    is-off : legalSizes size count (length bytes) ≡ false → formatDue size count bytes ≡ refuse geometry
-    is-off off = format-off size count bytes off
+    is : formatDue size count bytes ≡ make (format B count) 0
+    is = format-on size count bytes legal
 
-    illegal : legalSizes size count (length bytes) ≡ false → Invariant size count (leaves size due a bytes) emptyModel
-    illegal off = absurd (one-zero a (sym (ap (λ (d : Due). answerNumbers (answer d a) .number) (is-off off)) ∙ given))
+    bounds : Bounds size count (length bytes)
+    bounds = legal-bounds size count (length bytes) legal
 
-    by-allowance : legalSizes size count (length bytes) ≡ true → (b : Bool) → leb (length (format B count)) a ≡ b → Invariant size count (leaves size due a bytes) emptyModel
-    by-allowance legal false short = absurd (cut-zero (format B count) a short (sym (ap (λ (d : Due). answerNumbers (answer d a) .number) (format-on size count bytes legal)) ∙ given))
-    by-allowance legal true enough =
-        subst (λ (d : Due). Invariant size count (leaves size d a bytes) emptyModel) (sym (format-on size count bytes legal))
-        (record {
-          legal = left .legal;
-          whole = subst (IsImage B count) (sym (left .blocks)) (apply-image inside ok-image);
-          current = λ id. none;
-          stands = subst (λ (i : Image). Stands count (λ id. none) (viewsOf B i)) (sym (left .blocks ∙ ap (λ (ss : List Store). apply ss im) all)) fresh;
-          matches = λ id user. matchesNothing;
-        })
-      where
-        bounds : Bounds size count (length bytes)
-        bounds = legal-bounds size count (length bytes) legal
+    all : take a (format B count) ≡ format B count
+    all = take-all a (format B count) (landed-enough a (format B count) 0 (subst (λ (d : Due). Lands d a) is lands))
 
-        all : take a (format B count) ≡ format B count
-        all = take-all a (format B count) (leb-true (length (format B count)) a enough)
+    ok-image : IsImage B count im
+    ok-image = image-of-bytes B count bytes ok (bounds .exact)
 
-        ok-image : IsImage B count im
-        ok-image = image-of-bytes B count bytes ok (bounds .exact)
+    inside : Each (IsInside B count) (made (make (format B count) 0) a)
+    inside = each-take a (format-inside B count (omega (arith, bounds .blocks-from)) (omega (arith, bounds .sectors-from)))
 
-        inside : Each (IsInside B count) (made (make (format B count) 0) a)
-        inside = each-take a (format-inside B count (omega (arith, bounds .blocks-from)) (omega (arith, bounds .sectors-from)))
+    left : HasBlocks size count (leaves size (make (format B count) 0) a bytes) (apply (made (make (format B count) 0) a) im)
+    left = leaves-on size count (record { legal = legal; blocks = refl }) (make (format B count) 0) a (inside-lie inside)
 
-        left : HasBlocks size count (leaves size (make (format B count) 0) a bytes) (apply (made (make (format B count) 0) a) im)
-        left = leaves-on size count (record { legal = legal; blocks = refl }) (make (format B count) 0) a (inside-lie inside)
-
-        fresh : Stands count (λ id. none) (viewsOf B (apply (format B count) im))
-        fresh = format-stands B count bytes (bounds .blocks-from) (bounds .sectors-from)
+    fresh : Stands count (λ id. none) (viewsOf B (apply (format B count) im))
+    fresh = format-stands B count bytes (bounds .blocks-from) (bounds .sectors-from)
 
 -- and so does every list of calls
 pub kept-by-run : (size count : ℕ) (list : List Call) (state : Run) → Each Typed list → Invariant size count (state .image) (state .model)
@@ -142,7 +92,7 @@ few-turns (atRest w) = omega arith
 few-turns (notReopened w) = omega arith
 few-turns (midTurn u) = omega arith
 
-mount-is : (size count : ℕ) (image : List ℕ) {im : Image} → HasBlocks size count image im → (state : State) → stateOf (viewsOf (size / blockSize) im) ≡ some state
+pub mount-is : (size count : ℕ) (image : List ℕ) {im : Image} → HasBlocks size count image im → (state : State) → stateOf (viewsOf (size / blockSize) im) ≡ some state
     → mountDue size count image ≡ make (mount (size / blockSize) count state im) (mountTurns state)
 unfolding mountDue mountOn inState
 mount-is size count image {im} cut state found =
@@ -181,7 +131,7 @@ invariant-holds size count state inv =
     plan : Plan
     plan = mount B count (s .state)
 
-    goes : Goes B count plan im (Stands count (inv .current)) (Settled count (inv .current))
+    goes : Goes B count plan im (Stands count (inv .current)) (SettledAt count (inv .current) (worksAfter count (mountTurns (s .state)) (s .state)))
     goes = mount-goes B count (bounds .blocks-from) (bounds .blocks-to) (bounds .sectors-from) (inv .current) im (inv .whole) s
 
     is : mountDue size count image ≡ make (plan im) (mountTurns (s .state))
@@ -208,7 +158,7 @@ invariant-holds size count state inv =
         same = left .blocks ∙ ap (λ (ss : List Store). apply ss im) (take-all a (plan im) enough)
 
         left-rests : Settled count (inv .current) (viewsOf B (imageOf B count (leaves size what a image)))
-        left-rests = subst (λ (i : Image). Settled count (inv .current) (viewsOf B i)) (sym same) (goes .whole)
+        left-rests = subst (λ (i : Image). Settled count (inv .current) (viewsOf B i)) (sym same) (goes .whole .settled)
 
         left-holds : Invariant size count (leaves size what a image) (state .model)
         left-holds =

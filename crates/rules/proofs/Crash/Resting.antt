@@ -1,42 +1,34 @@
 -- What a call gives on an image at rest that keeps the invariant: the second and third point of demand 3.
 use mathlib.Core.Path.{_≡_, refl, sym, ap, subst, _∙_}
 use mathlib.Core.Bool.{false}
-use mathlib.Core.List.{List, [], _∷_, _++_, map}
+use mathlib.Core.List.{List, [], _∷_, map}
 use mathlib.Core.Logic.{_↔_}
 use mathlib.Core.Option.{Option, none, some, Option·none-ne-some}
-use Prim.Native.Nat.{ℕ, suc, _+_, _*_, _-_, _/_, _<_, _≤_}
+use Prim.Native.Nat.{ℕ, _+_, _-_, _/_, _<_, _≤_}
 use native.Mathlib.Nat.{not-suc-le-zero}
 use native.Mathlib.Omega.{arith}
-use lib.Dec.{leb, ltb}
-use lib.ListN.{length, getD, take, drop, length-append}
-use lib.Seq.{length-take-le}
-use borrow.Author.Tests.{ne-eqb, lt-ltb, le-ltb, ltb-true, ltb-false, leb-true, leb-false}
-use Rattle.rules.specs.Notation.{if_then_else_, concat, isEmpty, Each, empty, each}
-use Rattle.rules.specs.Ground.{Image, Block, blockSize, imageOf, reservedId, keptFromValues, keptFromDeletions}
-use Rattle.rules.specs.Look.{Head, deletion, value, dataOf, needOf}
-use Rattle.rules.specs.Reading.{Entry, View, isLong}
-use Rattle.rules.specs.Meaning.{State, atRest, notReopened, midTurn, Is, viewsOf, viewAt, next, allBut, endingAt, noView, counting, stateOf, history, entriesIn, lookup, lengthIn, valueOf, liveAmong, liveEach, needsOf, liveIn}
+use lib.Dec.{leb}
+use lib.ListN.{length, getD}
+use borrow.Author.Tests.{ne-eqb, le-ltb, leb-true, leb-false}
+use Rattle.rules.specs.Notation.{isEmpty}
+use Rattle.rules.specs.Ground.{Image, blockSize, imageOf, reservedId, keptFromValues, keptFromDeletions}
+use Rattle.rules.specs.Look.{deletion, value, needOf}
+use Rattle.rules.specs.Reading.{Entry, View}
+use Rattle.rules.specs.Meaning.{atRest, viewsOf, viewAt, next, allBut, counting, stateOf, history, entriesIn, lookup, liveAmong, liveEach, needsOf, liveIn}
 use Rattle.rules.specs.Stores.{Store, leastTurns, change, valueEntry, deletionEntry}
-use Rattle.rules.specs.Calls.{noRoom, absent, Due, refuse, make, answer, answerNumbers, Numbers, Reply, readEntry, replyNumbers, refusalNumber, lengthTold, bufferAfter, inRest, changeOn, writeOn, deleteOn, readOn, writeDue, deleteDue, read}
-use Rattle.rules.specs.Demands.{IsUser, Model, views, Matches, matchesNothing, matchesValue, gives, ReadsAs, readsNothing, readsShort, readsValue, Reads, Succeeds, IsWritable, IsFull, AtRest}
-use Rattle.rules.proofs.Terms.{IsImage, IsBlock, IsProper, HeadFits, fits-done, fits-deletion, fits-small, fits-long}
-use Rattle.rules.proofs.Basics.Notation.{if-true, if-false, by-test}
+use Rattle.rules.specs.Calls.{noRoom, absent, Due, refuse, make, answer, answerNumbers, Numbers, refusalNumber, lengthTold, inRest, changeOn, writeOn, deleteOn, writeDue, deleteDue}
+use Rattle.rules.specs.Demands.{IsUser, Model, views, Matches, matchesNothing, matchesValue, gives, Succeeds, IsWritable, IsFull, AtRest}
+use Rattle.rules.proofs.Basics.Notation.{if-false, by-test}
 use Rattle.rules.proofs.Format.Ground.{Bounds, legal-bounds}
-use Rattle.rules.proofs.Basics.Parts.{each-append, each-take, each-drop}
-use Rattle.rules.proofs.Basics.Places.{at-each}
-use Rattle.rules.proofs.Blocks.OnImage.{proper-view, counted-view, views-length}
+use Rattle.rules.proofs.Blocks.OnImage.{counted-view}
 use Rattle.rules.proofs.Ring.Order.{ring, allButTwo, next-lt, length-allBut}
-use Rattle.rules.proofs.Ring.History.{entriesIn-each}
-use Rattle.rules.proofs.Ring.Changes.{IsTold, lookup-place}
 use Rattle.rules.proofs.Ring.Live.{live-needs}
 use Rattle.rules.proofs.Ring.Fits.{IsNoRoom, IsLeast, none-room, room-none, turns-least, one-turn, each-map, map-each}
 use Rattle.rules.proofs.Ring.LiveBySector.{ring-sectors, sectors-ring}
-use Rattle.rules.proofs.Ring.States.{is-state}
 use Rattle.rules.proofs.Due.Calls.{IsCoverable, answer-whole, answer-cut, write-coverable, delete-coverable}
 use Rattle.rules.proofs.Blocks.OnBytes.{HasBlocks, call-on}
-use Rattle.rules.proofs.Blocks.Value.{roomy}
 use Rattle.rules.proofs.Crash.Mounting.{Settled}
-use Rattle.rules.proofs.Crash.Changing.{counted}
+use Rattle.rules.proofs.Crash.Reads.{settled-state, settled-lookup, settled-reads}
 use Rattle.rules.proofs.Crash.Invariant.{Invariant}
 
 -- a call whose stores are known lands
@@ -51,42 +43,6 @@ succeeds-of {what} stores turns most is few covered =
       whole = λ a h. ap (λ (d : Due). answerNumbers (answer d a)) is ∙ ap answerNumbers (answer-whole stores turns a h);
       short = λ a h. ap (λ (d : Due). answerNumbers (answer d a)) is ∙ ap answerNumbers (answer-cut stores turns a h);
     }
-
--- blocks put together
-length-blocks : {blocks : List Block} → Each IsBlock blocks → length (concat blocks) ≡ length blocks * blockSize
-unfolding concat
-length-blocks empty = refl
-length-blocks (each {x = block} {xs = blocks} is ok) =
-    let rest : length (concat blocks) ≡ length blocks * blockSize = length-blocks ok in
-    omega (arith, length-append block (concat blocks), is .sized)
-
--- an entry holds as many bytes as its head says
-holds : {head : Head} {rest : List ℕ} {blocks : List Block} → HeadFits head rest → length blocks ≡ dataOf head → Each IsBlock blocks
-    → lengthIn head ≤ length (if isLong head then concat blocks else rest)
-unfolding lengthIn isLong dataOf
-holds (fits-done sized padded) number ok = omega arith
-holds (fits-deletion named user sized padded) number ok = omega arith
-holds {blocks = blocks} (fits-small {len = len} {rest = rest} named user one few sized padded) number ok = simp (le-ltb 8 len few, if-false) (omega arith)
-holds {blocks = blocks} (fits-long {len = len} named user many short sized) number ok =
-    simp (lt-ltb 8 len many, if-true) (omega (arith, length-blocks ok, roomy len many))
-
-pub proper-length : (e : Entry) → IsProper e → length (valueOf e) ≡ lengthIn (e .head)
-unfolding valueOf
-proper-length e proper = length-take-le (lengthIn (e .head)) (if isLong (e .head) then concat (e .blocks) else e .inline) (holds (proper .fits) (proper .counted) (proper .blocks))
-
--- a read by what is told
-reads-by : {t : Option Entry} {entry : Option (List ℕ)} → Matches t entry → ((e : Entry) → t ≡ some e → IsProper e) → (buffer : List ℕ)
-    → ReadsAs buffer entry (replyNumbers (readEntry (length buffer) t)) (bufferAfter (readEntry (length buffer) t) buffer)
-unfolding readEntry replyNumbers refusalNumber lengthTold bufferAfter gives
-reads-by matchesNothing proper buffer = readsNothing
-reads-by (matchesValue {e} sound) proper buffer =
-    let n : ℕ = lengthIn (e .head) in
-    let sized : length (valueOf e) ≡ n = proper-length e (proper e refl) in
-    by-test (ltb (length buffer) n)
-    (λ short. simp (short, if-true) (subst (λ (k : ℕ). ReadsAs buffer (some (valueOf e)) (gives 10 0 0 k) buffer) sized (readsShort (omega (arith, ltb-true (length buffer) n short)))))
-    (λ enough.
-    simp (enough, if-false, sound, if-true)
-    (subst (λ (k : ℕ). ReadsAs buffer (some (valueOf e)) (gives 0 0 0 k) (valueOf e ++ drop k buffer)) sized (readsValue (omega (arith, ltb-false (length buffer) n enough)))))
 
 filled : (bytes : List ℕ) → 1 ≤ length bytes → isEmpty bytes ≡ false
 unfolding isEmpty
@@ -169,34 +125,6 @@ full-no-room size count image w need sized here = (to, from)
               (ring-sectors Above u vs spare (map-each Above needsOf (liveEach (allBut u vs)) (r .others)) s (subst (λ (n : ℕ). s < n) (sym sized) inside) (λ e. apart (e ∙ ap (λ (n : ℕ). next n w) sized)));
         }
 
--- every entry of an image is proper
-proper-views : (B S : ℕ) (im : Image) → 8 ≤ B → IsImage B S im → Each (λ (v : View). Each IsProper (v .entries)) (viewsOf B im)
-unfolding viewAt
-proper-views B S im big ok =
-    at-each (λ (v : View). Each IsProper (v .entries)) noView (viewsOf B im)
-    (λ s inside. proper-view big ok (subst (λ (n : ℕ). s < n) (views-length B im ∙ ok .sized) inside))
-
-proper-in : {vs : List View} → Each (λ (v : View). Each IsProper (v .entries)) vs → Each IsProper (entriesIn vs)
-unfolding entriesIn
-proper-in empty = empty
-proper-in (each p ps) = each-append p (proper-in ps)
-
-proper-history : (B S : ℕ) (im : Image) → 8 ≤ B → IsImage B S im → (state : State) → Each IsProper (history state (viewsOf B im))
-unfolding history counting allBut endingAt
-proper-history B S im big ok state = by-state state
-  where
-    round : (m n : ℕ) → Each IsProper (entriesIn (drop m (viewsOf B im) ++ take n (viewsOf B im)))
-    round m n = let all = proper-views B S im big ok in proper-in (each-append (each-drop m all) (each-take n all))
-
-    by-state : (state : State) → Each IsProper (history state (viewsOf B im))
-    by-state (atRest w) = round (suc (next (length (viewsOf B im)) w)) (next (length (viewsOf B im)) w)
-    by-state (notReopened w) = round (suc w) (suc w)
-    by-state (midTurn u) = round (suc u) u
-
-each-mid : {P : Entry → Type 0} (before : List Entry) {e : Entry} (after : List Entry) → Each P (before ++ (e ∷ after)) → P e
-each-mid [] after (each p ps) = p
-each-mid (x ∷ xs) after (each p ps) = each-mid xs after ps
-
 module _ (size count : ℕ) (image : List ℕ) (model : Model) (inv : Invariant size count image model) (q : Settled count (inv .current) (views size count image)) where
   abbrev B : ℕ
   B = size / blockSize
@@ -207,37 +135,20 @@ module _ (size count : ℕ) (image : List ℕ) (model : Model) (inv : Invariant 
   abbrev w : ℕ
   w = q .working
 
-  cut : HasBlocks size count image im
-  cut = record { legal = inv .legal; blocks = refl }
+  abbrev T : ℕ → Option Entry
+  T = inv .current
 
   bounds : Bounds size count (length image)
   bounds = legal-bounds size count (length image) (inv .legal)
 
+  cut : HasBlocks size count image im
+  cut = record { legal = inv .legal; blocks = refl }
+
   at-rest : stateOf (viewsOf B im) ≡ some (atRest w)
-  unfolding Is views
-  at-rest = is-state (viewsOf B im) (atRest w) (q .rests .is)
+  at-rest = settled-state size count image (inv .legal) (inv .whole) q
 
-  lookup-same : (id : ℕ) → lookup id (history (atRest w) (viewsOf B im)) ≡ inv .current id
-  unfolding history views
-  lookup-same id =
-      ap (lookup id) (entriesIn-each (counting (atRest w) (viewsOf B im)) ∙ ap concat (counted count (bounds .sectors-from) (q .rests))) ∙ q .matches id
-
-  lookup-proper : (id : ℕ) (e : Entry) → inv .current id ≡ some e → IsProper e
-  lookup-proper id e is =
-      let place : IsTold id (history (atRest w) (viewsOf B im)) e = lookup-place id (history (atRest w) (viewsOf B im)) (lookup-same id ∙ is) in
-      each-mid (place .before) (place .after) (subst (Each IsProper) (place .placed) (proper-history B count im (bounds .blocks-from) (inv .whole) (atRest w)))
-
-  read-is : (id n : ℕ) → IsUser id → read size count image id n ≡ readEntry n (inv .current id)
-  unfolding read readOn inRest IsUser
-  read-is id n user =
-      call-on size count cut Reply.refused (λ B S i. readOn B S i id n)
-      ∙ simp (ne-eqb id reservedId (user .1), if-false, at-rest, lookup-same id)
-
-  rest-reads : (id : ℕ) → IsUser id → Reads size count image id (model id)
-  unfolding Reads
-  rest-reads id user buffer =
-      subst (λ (r : Reply). ReadsAs buffer (model id) (replyNumbers r) (bufferAfter r buffer)) (sym (read-is id (length buffer) user))
-      (reads-by (inv .matches id user) (lookup-proper id) buffer)
+  lookup-same : (id : ℕ) → lookup id (history (atRest w) (viewsOf B im)) ≡ T id
+  lookup-same = settled-lookup size count image (inv .legal) (inv .whole) q
 
   write-is : (id : ℕ) (bytes : List ℕ) → IsWritable size id bytes → writeDue size count image id bytes ≡ changeOn B count w (B - keptFromValues) (valueEntry id bytes) im
   unfolding writeDue writeOn inRest IsUser
@@ -351,13 +262,13 @@ module _ (size count : ℕ) (image : List ℕ) (model : Model) (inv : Invariant 
 
   -- The second and third point of demand 3, of an image at rest.
   pub rest-holds : AtRest size count image model
-  unfolding views
+  unfolding views IsUser
   rest-holds =
       record {
         working = w;
         is = at-rest;
         matches = λ id user. subst (λ (t : Option Entry). Matches t (model id)) (sym (lookup-same id)) (inv .matches id user);
-        reads = rest-reads;
+        reads = λ id user. settled-reads size count image (inv .legal) (inv .whole) q id (user .1) (inv .matches id user);
         refuses = rest-refuses;
         writes = rest-writes;
         deletes = rest-deletes;
