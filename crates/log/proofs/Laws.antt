@@ -1,7 +1,7 @@
 -- How steps under a budget compose: the stores of one and then those of the next are those of both, and where one was cut, whatever
 -- was to follow is not made. What it turns on: what stores leave of a budget (`Spent`), and of an image.
 -- Assumes nothing.
-use mathlib.Core.Path.{_≡_, refl, sym, ap, ap₂, subst, _∙_}
+use mathlib.Core.Path.{_≡_, sym, ap, ap₂, subst, _∙_}
 use mathlib.Core.Bool.{true, false}
 use mathlib.Core.List.{List, [], _++_}
 use Prim.Native.Nat.{ℕ, _-_, _/_, _≤_}
@@ -14,11 +14,11 @@ use Rattle.rules.specs.Notation.{Each}
 use Rattle.rules.specs.Ground.{Image, blockSize, imageOf}
 use Rattle.rules.specs.Stores.{Store, Plan, apply, applyBytes, _andThen_}
 use Rattle.rules.specs.Calls as call
-use Rattle.rules.specs.Calls.{make, answer, made, leaves}
+use Rattle.rules.specs.Calls.{make, answer, leaves}
 use Rattle.rules.proofs.Basics.Lists.{take-append}
 use Rattle.rules.proofs.Basics.Parts.{each-take}
 use Rattle.rules.proofs.Blocks.OnBytes.{Lies, stored, stored-append, length-stored}
-use Rattle.rules.proofs.Due.Calls.{answer-whole, answer-cut}
+use Rattle.rules.proofs.Due.Calls.{answer-whole, answer-cut, made-make}
 use Rattle.layout.specs.declared.Geometry.{Geometry}
 use Rattle.layout.specs.Geometry.{blocksOf, sectorsOf, Backs}
 use Rattle.log.specs.declared.Budget.{Budget}
@@ -34,7 +34,7 @@ module _ {g : Geometry} {before after : List ℕ} {ss : List Store} {b b′ : Bu
   pub did-cut-as : b′ .cut ≡ spent b ss .cut
   did-cut-as = ap (λ (x : Budget). x .cut) (did .left)
 
-  -- what is known of one that was not cut, or was
+  -- not cut: the stores were within the budget; cut: they took all that was left
   pub did-within : b′ .cut ≡ false → length ss ≤ b .left
   did-within e = uncut b ss (sym did-cut-as ∙ e)
 
@@ -47,7 +47,7 @@ module _ {g : Geometry} {before after : List ℕ} {ss : List Store} {b b′ : Bu
   -- the image keeps its length
   pub did-backs : Backs g before → Backs g after
   did-backs k =
-      record { sound = k .sound; sized = ap length (did .image) ∙ length-stored (blocksOf g) (take (b .left) ss) before ∙ k .sized }
+      record { sound = k .sound; sized = ap length (did .image) ∙ length-stored (blocksOf g) _ before ∙ k .sized }
 
   -- the blocks afterwards: of as many stores as the budget had, and of all where it was not cut
   pub did-image : Backs g before → Each (Lies (blocksOf g) (sectorsOf g)) ss
@@ -109,10 +109,6 @@ unfolding _andThen_
 did-and-then-cut first second im k did e = did-cut (second (apply (first im) im)) k did e
 
 -- ---- the whole of a call
-
-pub made-make : (ss : List Store) (turns a : ℕ) → made (make ss turns) a ≡ take a ss
-unfolding made
-made-make ss turns a = refl
 
 module _ {g : Geometry} {before after : List ℕ} {ss : List Store} {a : ℕ} {r : Budget} (did : Did g before ss (budgetOf a) after r) where
   -- cut exactly where the allowance is below the stores due

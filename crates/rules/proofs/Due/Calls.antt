@@ -9,7 +9,7 @@ use Prim.Native.Nat.{ℕ, suc, _+_, _*_, _-_, _/_, _<_, _≤_, _^_}
 use native.Mathlib.Nat.{mul-le-mul}
 use native.Mathlib.Omega.{arith}
 use lib.Dec.{leb, ltb, eqb}
-use lib.ListN.{length, length-append, length-take, length-drop, length-map}
+use lib.ListN.{length, take, length-append, length-take, length-drop, length-map}
 use borrow.Author.Tests.{le-leb, lt-leb, ltb-false}
 use Rattle.rules.specs.Notation.{isEmpty, pieces, erased}
 use Rattle.rules.specs.Ground.{Image, legalSizes, imageOf, sectorOf, blockSize, reservedId, keptFromValues, keptFromDeletions}
@@ -17,7 +17,7 @@ use Rattle.rules.specs.Look.{needOf, dataBlocks}
 use Rattle.rules.specs.Reading.{Entry, View, viewOf}
 use Rattle.rules.specs.Meaning.{State, atRest, notReopened, midTurn, viewsOf, viewAt, stateOf, next, allBut, counting, history, lookup, liveEach, needsOf}
 use Rattle.rules.specs.Stores.{Store, format, firstFit, leastTurns, change, valueEntry, deletionEntry}
-use Rattle.rules.specs.Calls.{Due, refuse, make, Refusal, geometry, reserved, empty, tooLong, noRoom, absent, done, cut, answer, inState, inRest, formatOn, mountOn, changeOn, writeOn, deleteOn, atSizes, formatDue, mountDue, writeDue, deleteDue}
+use Rattle.rules.specs.Calls.{Due, refuse, make, Refusal, geometry, reserved, empty, tooLong, noRoom, absent, done, cut, answer, inState, inRest, formatOn, mountOn, changeOn, writeOn, deleteOn, atSizes, formatDue, mountDue, writeDue, deleteDue, made}
 use Rattle.rules.proofs.Basics.Notation.{if-true, if-false, if-cases, if-either}
 use Rattle.rules.proofs.Format.Ground.{length-pieces, Bounds, legal-bounds}
 use Rattle.rules.proofs.Due.Few.{IsShort}
@@ -37,6 +37,11 @@ unfolding answer
 answer-cut stores turns a short = simp (lt-leb (length stores) a short, if-false)
 
 -- ---- what an allowance can cover
+
+-- and what it lets be made
+pub made-make : (stores : List Store) (turns a : ℕ) → made (make stores turns) a ≡ take a stores
+unfolding made
+made-make stores turns a = refl
 
 -- the stores due are a number of 32 bits
 abbrev pub IsCoverable : Due → Type 0
