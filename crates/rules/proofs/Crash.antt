@@ -13,6 +13,7 @@ pub mod Invariant
 pub mod Fresh
 pub mod Resting
 pub mod Demand3
+pub mod Safe
 pub mod ReadBack
 pub mod TurnsShow
 pub mod Pinned
