@@ -1,7 +1,6 @@
 -- The laws of the definitions, from the bottom up. A file says what it is for in its first line.
 pub mod Basics
 pub mod Computing
-pub mod Worked
 pub mod Terms
 pub mod Format
 pub mod Blocks

@@ -1,7 +1,7 @@
 -- An allowance can cover whatever a call is due: fewer than 2^32 stores. And what each allowance then answers. What it turns
 -- on: a change makes no more turns than the image has sectors, and what is not refused as too long has at most B data blocks.
 -- Assumes nothing.
-use mathlib.Core.Path.{_≡_, refl, ap, _∙_}
+use mathlib.Core.Path.{_≡_, refl, ap}
 use mathlib.Core.List.{List, [], _∷_, _++_, map}
 use mathlib.Core.Logic.{⊎-elim}
 use mathlib.Core.Option.{Option, none, some, Option·some-injective, Option·none-ne-some}
@@ -11,8 +11,8 @@ use native.Mathlib.Omega.{arith}
 use lib.Dec.{leb, ltb, eqb}
 use lib.ListN.{length, take, length-append, length-take, length-drop, length-map}
 use borrow.Author.Tests.{le-leb, lt-leb, ltb-false}
-use Rattle.rules.specs.Notation.{isEmpty, pieces, erased}
-use Rattle.rules.specs.Ground.{Image, legalSizes, imageOf, sectorOf, blockSize, reservedId, keptFromValues, keptFromDeletions}
+use Rattle.rules.specs.Notation.{isEmpty, erased}
+use Rattle.rules.specs.Ground.{Image, legalSizes, imageOf, blockSize, reservedId, keptFromValues, keptFromDeletions}
 use Rattle.rules.specs.Look.{needOf, dataBlocks}
 use Rattle.rules.specs.Reading.{Entry, View, viewOf}
 use Rattle.rules.specs.Meaning.{State, atRest, notReopened, midTurn, viewsOf, viewAt, stateOf, next, allBut, counting, history, lookup, liveEach, needsOf}
@@ -22,7 +22,7 @@ use Rattle.rules.proofs.Basics.Notation.{if-true, if-false, if-cases, i
 use Rattle.rules.proofs.Format.Ground.{length-pieces, Bounds, legal-bounds}
 use Rattle.rules.proofs.Due.Few.{IsShort}
 use Rattle.rules.proofs.Due.Bound.{mount-due, change-due}
-use Rattle.rules.proofs.Blocks.Formatted.{length-format}
+use Rattle.rules.proofs.Blocks.Formatted.{length-format, length-image}
 use Rattle.rules.proofs.Ring.LiveBySector.{length-liveEach}
 
 -- ---- what an allowance answers
@@ -134,10 +134,6 @@ format-on-coverable B S im some-block low some-sector few =
     make-coverable (format B S) 0 (omega (arith, length-format B S some-block some-sector, mul-le-mul few low))
 
 -- ---- the calls on bytes: what is not refused for its sizes is covered
-
-length-image : (B S : ℕ) (bytes : List ℕ) → length (imageOf B S bytes) ≡ S
-unfolding imageOf
-length-image B S bytes = length-map (pieces S (B * blockSize) bytes) (sectorOf B) ∙ length-pieces S (B * blockSize) bytes
 
 module _ (size count : ℕ) (bytes : List ℕ) where
   at-sizes : (call : (B S : ℕ) → Image → Due)
