@@ -21,7 +21,7 @@ pub data Call : Type 0 where
   write : (id : ℕ) → List ℕ → (budget : ℕ) → Call
   delete : (id budget : ℕ) → Call
 
--- numbers that a caller can pass: IDs and allowances of 32 bits, and bytes
+-- Numbers that a caller can pass: IDs and budgets of 32 bits, and bytes. A budget is the paper's allowance.
 unfoldable pub IsId : ℕ → Type 0
 IsId id = id < 2 ^ 32
 
@@ -46,9 +46,9 @@ budget (mount a) = a
 budget (write id bytes a) = a
 budget (delete id a) = a
 
--- "The book is fed each call's arguments and its answer number, and nothing of the image. For each ID but FFFFFFFF it keeps
--- a value or nothing, at first nothing. A write that answers 0 puts its bytes there; a delete that answers 0, nothing. Mounts and all
--- other answers, 11 too, leave it alone."
+-- The reference model is the paper's plain book. "The book is fed each call's arguments and its answer number, and nothing
+-- of the image. For each ID but FFFFFFFF it keeps a value or nothing, at first nothing. A write that answers 0 puts its
+-- bytes there; a delete that answers 0, nothing. Mounts and all other answers, 11 too, leave it alone."
 abbrev pub Model : Type 0
 Model = ℕ → Option (List ℕ)
 
@@ -63,7 +63,7 @@ modelAfter (mount a) number model = model
 modelAfter (write id bytes a) number model = if eqb number 0 then assign model id (some bytes) else model
 modelAfter (delete id a) number model = if eqb number 0 then assign model id none else model
 
--- the image and the book after a list of calls
+-- the image and the model after a list of calls
 pub record Run : Type 0 where
   pub image : List ℕ
   pub model : Model

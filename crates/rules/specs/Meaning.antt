@@ -124,7 +124,7 @@ isValue (value i len) = true
 unfoldable pub changesOf : (id : ℕ) → List Entry → List Entry
 changesOf id entries = select (λ (e : Entry). isNamed id (e .head)) (reverse entries)
 
--- "The newest entry of an ID tells: value, or absent."
+-- "The newest entry of an ID tells: value, or absent." The lookup of an ID gives its present value, or nothing.
 unfoldable pub newestValue : List Entry → Option Entry
 newestValue [] = none
 newestValue (newest ∷ older) = when (isValue (newest .head)) newest
