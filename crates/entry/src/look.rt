@@ -22,7 +22,7 @@ const CYCLE_AT: usize = 1;
 
 const LENGTH_AT: usize = 2;
 
-const ID_AT: usize = 4;
+pub const ID_AT: usize = 4;
 
 const BODY_AT: usize = 8;
 

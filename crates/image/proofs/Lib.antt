@@ -1,5 +1,7 @@
--- What callers learn of a survey, and what the proofs of the functions share.
+-- What callers learn of a survey and of a search, and what the proofs of the functions share.
 pub mod Laws
+pub mod SearchLaws
 pub mod Sectors
+pub mod Seeking
 pub mod States
 pub mod Surveyed

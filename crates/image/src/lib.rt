@@ -1,5 +1,6 @@
-// What an image means: its sectors, and the state that they make together.
+// What an image means: its sectors, the state that they make together, and the newest entry of an ID.
 pub mod ring;
+pub mod search;
 
 use entry::Scan;
 use layout::Geometry;

@@ -4,7 +4,7 @@ ghost use mathlib.Core.Bool.{not, _&&_};
 ghost use mathlib.Core.List.{[], _∷_};
 ghost use Prim.Native.Nat.{ℕ, _<_};
 ghost use Rattle.rules.specs.Ground.{maxSectors};
-ghost use Rattle.rules.specs.Meaning.{viewAt, next};
+ghost use Rattle.rules.specs.Meaning.{viewAt, next, previous};
 ghost use Rattle.layout.specs.Numbers.{sectorNo};
 ghost use Rattle.layout.specs.Geometry.{sectorsOf, Sound, Backs};
 ghost use Rattle.mask.specs.Flags.{flagsOf, sectorsIn};
@@ -65,6 +65,18 @@ pub fn next_sector(g: Geometry, s: Sector) -> Sector
         return Sector::new(0);
     }
     Sector::new(above)
+}
+
+// The sector before s, round the ring.
+pub fn previous_sector(g: Geometry, s: Sector) -> Sector
+    requires { ⌜ sectorNo s < sectorsOf g ⌝ }
+    ensures { λ r. ⌜ sectorNo r ≡ previous (sectorsOf g) (sectorNo s) ⌝ }
+{
+    let number = s.number();
+    if number == 0 {
+        return Sector::new(g.sectors() - 1);
+    }
+    Sector::new(number - 1)
 }
 
 // What sector s comes to.

@@ -3,7 +3,7 @@ use mathlib.Core.Path.{_≡_}
 use mathlib.Core.Bool.{Bool, true, false, not, _&&_}
 use mathlib.Core.List.{List, [], _∷_, _++_, map, reverse}
 use mathlib.Core.Option.{Option, none, some}
-use Prim.Native.Nat.{ℕ, suc, _+_, _<_}
+use Prim.Native.Nat.{ℕ, suc, _+_, _-_, _<_}
 use lib.Dec.{eqb, ltb}
 use lib.ListN.{length, getD, take, drop}
 use Rattle.rules.specs.Notation.{if_then_else_, when, any, all, select, placesFrom, concat, isEmpty, numberOf}
@@ -29,6 +29,14 @@ isUnfinished view = not (view .closed) && not (hasDone view)
 -- "in a ring: after S-1 comes 0"
 unfoldable pub next : (S s : ℕ) → ℕ
 next S s = if eqb (suc s) S then 0 else suc s
+
+-- the same the other way: before 0 comes S-1
+unfoldable pub previous : (S s : ℕ) → ℕ
+previous S s = if eqb s 0 then S - 1 else s - 1
+
+-- the sector at place k after u, round the ring: place 0 is the one right after it
+unfoldable pub ringSector : (S u k : ℕ) → ℕ
+ringSector S u k = if ltb (u + 1 + k) S then u + 1 + k else u + 1 + k - S
 
 -- The three states: rest and done-not-reopened by the working sector, mid-turn by the unfinished one.
 pub data State : Type 0 where

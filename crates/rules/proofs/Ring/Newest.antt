@@ -6,15 +6,15 @@ use mathlib.Core.Logic.{_⊎_, inl, inr, ⊎-elim, by-cases}
 use Prim.Native.Nat.{ℕ, suc, _+_, _-_, _<_, _≤_}
 use native.Mathlib.Decide.{decLt}
 use native.Mathlib.Omega.{arith}
-use lib.Dec.{eqb, ltb}
+use lib.Dec.{eqb}
 use lib.ListN.{length, getD, take}
 use lib.Seq.{take-suc, take-all}
 use borrow.Author.Tests.{ne-eqb, eqb-true, eqb-false, lt-ltb, le-ltb}
-use Rattle.rules.specs.Notation.{if_then_else_, when}
+use Rattle.rules.specs.Notation.{when}
 use Rattle.rules.specs.Ground.{reservedId}
 use Rattle.rules.specs.Look.{Head, done, deletion, value}
 use Rattle.rules.specs.Reading.{Entry, View}
-use Rattle.rules.specs.Meaning.{noView, viewAt, next, allBut, entriesIn, isNamed, isValue, lookup}
+use Rattle.rules.specs.Meaning.{noView, viewAt, next, previous, ringSector, allBut, entriesIn, isNamed, isValue, lookup}
 use Rattle.rules.specs.Stores.{idIn}
 use Rattle.rules.proofs.Basics.Notation.{if-true, if-false, if-cases}
 use Rattle.rules.proofs.Ring.Order.{next-cases, length-allBut}
@@ -44,14 +44,6 @@ module _ (id : ℕ) (older es : List Entry) (n : ℕ) (d : Entry) (here : n < le
 
 -- ---- down round the ring
 
--- the sector at place k of the ring, oldest first, u being the spare
-unfoldable pub ringSector : (S u k : ℕ) → ℕ
-ringSector S u k = if ltb (u + 1 + k) S then u + 1 + k else u + 1 + k - S
-
--- "in a ring": before 0 comes S-1
-unfoldable pub previous : (S s : ℕ) → ℕ
-previous S s = if eqb s 0 then S - 1 else s - 1
-
 -- behind the spare, and from 0 on
 ring-low : (S u k : ℕ) → u + 1 + k < S → ringSector S u k ≡ u + 1 + k
 unfolding ringSector
@@ -65,13 +57,16 @@ ring-cases : (S u k : ℕ) → ((u + 1 + k < S) × (ringSector S u k ≡ u + 1 +
 ring-cases S u k =
     by-cases (decLt (u + 1 + k) S) (λ low. inl (low, ring-low S u k low)) (λ high. inr (omega arith, ring-high S u k (omega arith)))
 
-previous-cases : (S s : ℕ) → ((s ≡ 0) × (previous S s ≡ S - 1)) ⊎ ((s ≡ 0 → ⊥) × (previous S s ≡ s - 1))
+pub previous-cases : (S s : ℕ) → ((s ≡ 0) × (previous S s ≡ S - 1)) ⊎ ((s ≡ 0 → ⊥) × (previous S s ≡ s - 1))
 unfolding previous
 previous-cases S s =
     ⊎-elim
     (λ l. inl (eqb-true s 0 (l .0), sym (l .1)))
     (λ r. inr (eqb-false s 0 (r .0), sym (r .1)))
     (if-cases (eqb s 0) (S - 1) (s - 1) refl)
+
+pub previous-lt : (S s : ℕ) → s < S → previous S s < S
+previous-lt S s here = ⊎-elim (λ a. omega arith) (λ a. omega arith) (previous-cases S s)
 
 -- it undoes the successor
 pub previous-next : (S s : ℕ) → s < S → previous S (next S s) ≡ s
