@@ -6,7 +6,7 @@ pub mod look;
 const ERASED: u8 = 255;
 
 // The longest value that lies inside its entry.
-const SMALL: usize = 8;
+pub const SMALL: usize = 8;
 
 // The length in a lead.
 const LEAD_LENGTH: u16 = 0xFFFF;

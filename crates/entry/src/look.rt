@@ -20,13 +20,13 @@ use layout::Geometry;
 // Where the fields of a block begin: cycle, length, ID, body, and the second number of a body.
 const CYCLE_AT: usize = 1;
 
-const LENGTH_AT: usize = 2;
+pub const LENGTH_AT: usize = 2;
 
 pub const ID_AT: usize = 4;
 
-const BODY_AT: usize = 8;
+pub const BODY_AT: usize = 8;
 
-const SECOND_AT: usize = 12;
+pub const SECOND_AT: usize = 12;
 
 // The kind of an entry by its fields.
 enum Form {

@@ -10,8 +10,8 @@ use Rattle.rules.specs.Meaning.{viewAt, ringSector, isNamed, isValue}
 use Rattle.layout.specs.Numbers.{sectorAt}
 use Rattle.image.specs.declared.search.Hit.{Hit}
 use Rattle.image.specs.declared.search.Hit.the-variants as hit
-use Rattle.image.specs.declared.search.Found.{Found}
-use Rattle.image.specs.declared.search.Found.the-variants as found
+use Rattle.image.specs.declared.search.Newest.{Newest}
+use Rattle.image.specs.declared.search.Newest.the-variants as newest
 
 -- what stands where no entry is
 abbrev pub noEntry : Entry
@@ -48,6 +48,6 @@ abbrev pub hitAs : Option ℕ → Hit
 hitAs none = hit.Nothing
 hitAs (some n) = hit.At n
 
-abbrev pub foundAs : Option (ℕ × ℕ) → Found
-foundAs none = found.Nothing
-foundAs (some place) = found.Entry (sectorAt (place .0)) (place .1)
+abbrev pub newestAs : Option (ℕ × ℕ) → Newest
+newestAs none = newest.Nothing
+newestAs (some place) = newest.Entry (sectorAt (place .0)) (place .1)

@@ -8,7 +8,7 @@ ghost use Rattle.rules.specs.Meaning.{viewAt, next};
 ghost use Rattle.layout.specs.Numbers.{sectorNo};
 ghost use Rattle.layout.specs.Geometry.{blocksOf, sectorsOf, Sound, Backs};
 ghost use Rattle.image.specs.Answer.{viewsIn, Summarizes};
-ghost use Rattle.image.specs.Search.{lastNamed, seek, hitAs, foundAs};
+ghost use Rattle.image.specs.Search.{lastNamed, seek, hitAs, newestAs};
 use crate::Summary;
 use crate::ring;
 use entry::look;
@@ -23,13 +23,13 @@ enum Hit {
 }
 
 // The newest entry of an ID, a value or a deletion: its sector, and its number there.
-pub enum Found {
+pub enum Newest {
     Entry(Sector, usize),
     Nothing,
 }
 
 // Blocks that are known to be entries are searched by their IDs alone: entry n stands in block B-3-n.
-fn find_in(sector: &[u8], g: Geometry, entries: usize, id: u32) -> Hit
+fn newest_in(sector: &[u8], g: Geometry, entries: usize, id: u32) -> Hit
     requires { ⌜ Sound g ⌝ }
     requires { ⌜ length (now sector) ≡ blocksOf g * blockSize ⌝ }
     requires { ⌜ entries ≡ length (viewOf (blocksOf g) (sectorOf (blocksOf g) (now sector)) .entries) ⌝ }
@@ -48,41 +48,41 @@ fn find_in(sector: &[u8], g: Geometry, entries: usize, id: u32) -> Hit
 }
 
 // The same in sector s of an image.
-fn find_at(image: &[u8], g: Geometry, s: Sector, entries: usize, id: u32) -> Hit
+fn newest_at(image: &[u8], g: Geometry, s: Sector, entries: usize, id: u32) -> Hit
     requires { ⌜ Backs g (now image) ⌝ }
     requires { ⌜ sectorNo s < sectorsOf g ⌝ }
     requires { ⌜ entries ≡ length (viewAt (viewsIn g (now image)) (sectorNo s) .entries) ⌝ }
     requires { ⌜ (id ≡ reservedId → ⊥) ⌝ }
     ensures { λ r. ⌜ r ≡ hitAs (lastNamed id (viewAt (viewsIn g (now (image .entry))) (sectorNo s) .entries)) ⌝ }
 {
-    find_in(layout::sector_bytes(image, g, s), g, entries, id)
+    newest_in(layout::sector_bytes(image, g, s), g, entries, id)
 }
 
 // At rest all sectors count but the spare: from the working one back round the ring.
-pub fn find(
+pub fn newest_entry(
     image: &[u8],
     g: Geometry,
     sectors: [Summary; Geometry::MAX_SECTORS],
     w: Sector,
     id: u32,
-) -> Found
+) -> Newest
     requires { ⌜ Backs g (now image) ⌝ }
     requires { ⌜ Summarizes (viewsIn g (now image)) sectors ⌝ }
     requires { ⌜ sectorNo w < sectorsOf g ⌝ }
     requires { ⌜ (id ≡ reservedId → ⊥) ⌝ }
-    ensures { λ r. ⌜ r ≡ foundAs (seek id (sectorsOf g) (next (sectorsOf g) (sectorNo w)) (sectorsOf g - 1) (viewsIn g (now (image .entry)))) ⌝ }
+    ensures { λ r. ⌜ r ≡ newestAs (seek id (sectorsOf g) (next (sectorsOf g) (sectorNo w)) (sectorsOf g - 1) (viewsIn g (now (image .entry)))) ⌝ }
 {
     let mut left = g.sectors() - 1;
     let mut s = w;
     while left > 0 {
         let number = s.number();
         let entries = sectors[number].entries;
-        let hit = find_at(image, g, s, entries, id);
+        let hit = newest_at(image, g, s, entries, id);
         if let Hit::At(n) = hit {
-            return Found::Entry(s, n);
+            return Newest::Entry(s, n);
         }
         s = ring::previous_sector(g, s);
         left -= 1;
     }
-    Found::Nothing
+    Newest::Nothing
 }

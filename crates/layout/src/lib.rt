@@ -1,6 +1,6 @@
 // The ground: sizes, the three kinds of number, and one whole block read or stored.
 ghost use mathlib.Core.Path.{_≡_};
-ghost use Prim.Native.Nat.{_+_, _-_, _*_, _≤_, _<_};
+ghost use Prim.Native.Nat.{_+_, _-_, _*_, _^_, _≤_, _<_};
 ghost use lib.ListN.{length, getD, take, drop};
 ghost use Rattle.rules.specs.Notation.{numberOf};
 ghost use Rattle.rules.specs.Ground.{blockSize, keptFromValues, keptFromDeletions, placeOf, storeBytes};
@@ -13,7 +13,7 @@ pub struct Sector(usize);
 // A block number within its sector, 0 to B-1.
 pub struct Block(usize);
 
-// A byte place in the image. `Geometry::place` alone makes one.
+// A byte place in the image: where a block begins, or so many bytes further on.
 pub struct Place(usize);
 
 impl Sector {
@@ -49,6 +49,14 @@ impl Place {
         ensures { λ r. ⌜ r ≡ placeNo self ⌝ }
     {
         self.0
+    }
+
+    // The place so many bytes on.
+    pub fn plus(self, bytes: usize) -> Place
+        requires { ⌜ placeNo self + bytes < 2 ^ 32 ⌝ }
+        ensures { λ r. ⌜ placeNo r ≡ placeNo self + bytes ⌝ }
+    {
+        Place(self.0 + bytes)
     }
 }
 

@@ -1,4 +1,4 @@
--- `search::find`: the invariant is the search under way, over the sectors that are left.
+-- `search::newest_entry`: the invariant is the search under way, over the sectors that are left.
 -- Assumes nothing.
 use mathlib.Core.Path.{_≡_, sym, ap, _∙_}
 use Prim.Native.Nat.{_<_, _≤_}
@@ -11,11 +11,11 @@ use Rattle.layout.specs.Numbers.{sectorNo}
 use Rattle.layout.specs.Geometry.{sectorsOf}
 use Rattle.image.specs.declared.Summary.{Summary}
 use Rattle.image.specs.Answer.{viewsIn}
-use Rattle.image.specs.Search.{foundAs}
+use Rattle.image.specs.Search.{newestAs}
 use Rattle.image.proofs.Sectors.{views-count}
 use Rattle.image.proofs.Seeking.{Seeking, seeking-start, seeking-found, seeking-next, seeking-end, hit-at, hit-nothing}
-use Rattle.image.proofs.search.find.Statement.{statement}
-use Rattle.image.proofs.search.find.Tie as tie
+use Rattle.image.proofs.search.newest_entry.Statement.{statement}
+use Rattle.image.proofs.search.newest_entry.Tie as tie
 
 abbrev Inv-loop : tie.InvT-loop
 Inv-loop image g id sectors left₀ s₀ left s =
@@ -52,8 +52,8 @@ mul-entries c = omega (arith, low c)
 element-copy-out-entries : tie.Need-element-copy-out-entries Inv-loop μ-loop
 element-copy-out-entries c = omega (arith, low c)
 
-find-at-requires : tie.Need-find-at-requires Inv-loop μ-loop
-find-at-requires c κs =
+newest-at-requires : tie.Need-newest-at-requires Inv-loop μ-loop
+newest-at-requires c κs =
     let k = c .before .before .before .before .before in
     let inside = c .before .before .loop .inv .inside in
     let noted = k .pre .1 .0 .each (c .before .before .loop .s .0) (omega (arith, views-count (k .args .g) (k .args .image .now), inside)) in
@@ -65,8 +65,8 @@ enum-known-hit c = search needs
 returns : tie.Need-returns Inv-loop μ-loop
 returns c =
     let t = c .before .before .before .before .before in
-    let named = hit-at _ (sym (c .before .before .before .find-at .ensures) ∙ c .before .hit .given .1) in
-    ap foundAs (sym (seeking-found (t .before .loop .inv) (t .loop-test .taken) named))
+    let named = hit-at _ (sym (c .before .before .before .newest-at .ensures) ∙ c .before .hit .given .1) in
+    ap newestAs (sym (seeking-found (t .before .loop .inv) (t .loop-test .taken) named))
 
 enum-told : tie.Need-enum-told Inv-loop μ-loop
 enum-told c = search needs
@@ -84,16 +84,16 @@ loop-again : tie.Need-loop-again Inv-loop μ-loop
 loop-again c =
     let t = c .before .before .before .before .before in
     let k = t .before .before .before .before in
-    let other = hit-nothing _ (sym (c .before .before .before .find-at .ensures) ∙ c .before .enum-told .given .1) in
+    let other = hit-nothing _ (sym (c .before .before .before .newest-at .ensures) ∙ c .before .enum-told .given .1) in
     seeking-next (t .before .loop .inv) (next-lt _ _ (k .pre .1 .1 .0)) (t .loop-test .taken) other (c .previous-sector .ensures)
 
 returns-2 : tie.Need-returns-2 Inv-loop μ-loop
 returns-2 c =
     let none-left : c .before .loop .left ≡ 0 = omega (arith, c .loop-test .left) in
-    ap foundAs (sym (seeking-end (c .before .loop .inv) none-left))
+    ap newestAs (sym (seeking-end (c .before .loop .inv) none-left))
 
-pub find-spec : {M : Type 1} → statement M
-find-spec =
+pub newest-entry-spec : {M : Type 1} → statement M
+newest-entry-spec =
     tie.close
     (tie.spec
     Inv-loop
@@ -104,7 +104,7 @@ find-spec =
     number-requires
     mul-entries
     element-copy-out-entries
-    find-at-requires
+    newest-at-requires
     enum-known-hit
     returns
     enum-told

@@ -1,4 +1,4 @@
--- `search::find_in`: the invariant is that the entries above n do not name the ID; one turn is one step of the definition.
+-- `search::newest_in`: the invariant is that the entries above n do not name the ID; one turn is one step of the definition.
 -- Assumes nothing.
 use mathlib.Core.Path.{_≡_, sym, ap, _∙_}
 use mathlib.Core.List.{List}
@@ -17,8 +17,8 @@ use Rattle.layout.specs.Geometry.{blocksOf}
 use Rattle.layout.specs.Numbers.{blockNo}
 use Rattle.image.specs.Search.{noEntry, lastNamedBelow, lastNamed, hitAs}
 use Rattle.image.proofs.Seeking.{last-here, last-below, last-of-none, last-of-all, entries-few, named-by}
-use Rattle.image.proofs.search.find_in.Statement.{statement}
-use Rattle.image.proofs.search.find_in.Tie as tie
+use Rattle.image.proofs.search.newest_in.Statement.{statement}
+use Rattle.image.proofs.search.newest_in.Tie as tie
 
 abbrev entriesIn : Geometry → List ℕ → List Entry
 entriesIn g bytes = viewOf (blocksOf g) (sectorOf (blocksOf g) bytes) .entries
@@ -114,8 +114,8 @@ returns-2 c =
     let none-left : c .before .loop .n ≡ 0 = omega (arith, c .loop-test .left) in
     ap hitAs (sym (last-of-none _ _ none-left) ∙ c .before .loop .inv .1)
 
-pub find-in-spec : {M : Type 1} → statement M
-find-in-spec =
+pub newest-in-spec : {M : Type 1} → statement M
+newest-in-spec =
     tie.close
     (tie.spec
     Inv-loop

@@ -1,4 +1,4 @@
--- `search::find_at`: what is read is sector s of the image.
+-- `search::newest_at`: what is read is sector s of the image.
 -- Assumes nothing.
 use mathlib.Core.Path.{_≡_, ap, _∙_}
 use lib.ListN.{length}
@@ -10,8 +10,8 @@ use Rattle.rules.proofs.Format.Ground.{length-sector-bytes}
 use Rattle.layout.specs.Geometry.{blocksOf, sectorsOf}
 use Rattle.image.specs.Answer.{viewsIn}
 use Rattle.image.proofs.Sectors.{view-read}
-use Rattle.image.proofs.search.find_at.Statement.{statement}
-use Rattle.image.proofs.search.find_at.Tie as tie
+use Rattle.image.proofs.search.newest_at.Statement.{statement}
+use Rattle.image.proofs.search.newest_at.Tie as tie
 
 seen : (c : tie.After-sector-bytes)
     → let k = c .before .before in
@@ -23,8 +23,8 @@ seen c =
 sector-bytes-requires : tie.Need-sector-bytes-requires
 sector-bytes-requires c κs = search needs
 
-find-in-requires : tie.Need-find-in-requires
-find-in-requires c κs =
+newest-in-requires : tie.Need-newest-in-requires
+newest-in-requires c κs =
     let k = c .before .before in
     let sized =
     ap length (c .sector-bytes .ensures)
@@ -33,7 +33,7 @@ find-in-requires c κs =
     (k .pre .0 .sound, (sized, (counted, k .pre .1 .1 .1)))
 
 returns : tie.Need-returns
-returns c = rw (seen (c .before)) (c .find-in .ensures)
+returns c = rw (seen (c .before)) (c .newest-in .ensures)
 
-pub find-at-spec : {M : Type 1} → statement M
-find-at-spec = tie.close (tie.spec sector-bytes-requires find-in-requires returns)
+pub newest-at-spec : {M : Type 1} → statement M
+newest-at-spec = tie.close (tie.spec sector-bytes-requires newest-in-requires returns)
