@@ -3,5 +3,6 @@ pub mod Laws
 pub mod SearchLaws
 pub mod Sectors
 pub mod Seeking
+pub mod Valued
 pub mod States
 pub mod Surveyed

@@ -1,6 +1,6 @@
 -- What a caller learns of the newest entry that is sought: what it tells is what the image tells of the ID, and where it stands.
 -- Assumes nothing.
-use mathlib.Core.Path.{_≡_, refl, sym, ap, subst, _∙_}
+use mathlib.Core.Path.{_≡_, refl, sym, ap, ap₂, subst, _∙_}
 use mathlib.Core.Bool.{true}
 use mathlib.Core.List.{List, _++_, append-nil}
 use mathlib.Core.Logic.{⊎-elim}
@@ -15,7 +15,14 @@ use Rattle.rules.specs.Meaning.{viewAt, next, ringSector, allBut, counting, ent
 use Rattle.rules.proofs.Basics.Notation.{by-test, if-cases}
 use Rattle.rules.proofs.Ring.Order.{next-lt}
 use Rattle.rules.proofs.Ring.Newest.{down-named, down-other, ring-lt, ring-entries, ring-all}
-use Rattle.image.specs.Search.{noEntry, lastNamedBelow, lastNamed, inSector, seek, toldAt}
+use Rattle.layout.specs.declared.Geometry.{Geometry}
+use Rattle.layout.specs.declared.Sector.{Sector}
+use Rattle.layout.specs.Geometry.{sectorsOf}
+use Rattle.layout.specs.Numbers.{sectorNo, sectorAt}
+use Rattle.image.specs.declared.search.Newest.the-variants as newest
+use Rattle.image.specs.Search.{noEntry, lastNamedBelow, lastNamed, inSector, seek, newestAs, toldAt}
+use Rattle.image.specs.Answer.{viewsIn}
+use Rattle.image.proofs.Sectors.{views-count}
 use Rattle.image.proofs.Seeking.{last-here, last-below}
 
 -- ---- what it tells
@@ -110,3 +117,34 @@ module _ (id u : ℕ) (views : List View) (here : u < length views) where
       let s : ℕ = ringSector (length views) u k in
       in-stands s (ring-lt (length views) u here k h) (lastNamed id (viewAt views s .entries)) (seek id (length views) u k views) refl
       (seek-stands k (omega arith)) place e
+
+-- so it is with the entry that is sought in an image
+module _ (g : Geometry) (bytes : List ℕ) (id w : ℕ) (inside : w < sectorsOf g) where
+  pub sought-stands : (place : ℕ × ℕ) → seek id (sectorsOf g) (next (sectorsOf g) w) (sectorsOf g - 1) (viewsIn g bytes) ≡ some place
+      → StandsAt id (viewsIn g bytes) (place .0) (place .1)
+  sought-stands place =
+      let views : List View = viewsIn g bytes in
+      subst (λ (S : ℕ). w < S → seek id S (next S w) (S - 1) views ≡ some place → StandsAt id views (place .0) (place .1)) (views-count g bytes)
+      (λ here e. seek-stands id (next (length views) w) views (next-lt (length views) w here) (length views - 1) (omega arith) place e)
+      inside
+
+  pub sought-tells : lookup id (history (atRest w) (viewsIn g bytes))
+      ≡ toldAt (viewsIn g bytes) (seek id (sectorsOf g) (next (sectorsOf g) w) (sectorsOf g - 1) (viewsIn g bytes))
+  sought-tells =
+      let views : List View = viewsIn g bytes in
+      subst (λ (S : ℕ). w < S → lookup id (history (atRest w) views) ≡ toldAt views (seek id S (next S w) (S - 1) views)) (views-count g bytes)
+      (λ here. seek-lookup id w views here)
+      inside
+
+-- ---- the answer, read back
+
+pub newest-at : (o : Option (ℕ × ℕ)) {s : Sector} {n : ℕ} → newestAs o ≡ newest.Entry s n → o ≡ some (sectorNo s, n)
+newest-at none {s} {n} e = let z : _≡_ {A = ℕ} 0 1 = cc in absurd (omega arith)
+newest-at (some place) {s} {n} e =
+    let sector : sectorAt (place .0) ≡ s = cc in
+    let number : place .1 ≡ n = cc in
+    ap₂ (λ (t m : ℕ). some (t, m)) (ap sectorNo sector) number
+
+pub newest-nothing : (o : Option (ℕ × ℕ)) → newestAs o ≡ newest.Nothing → o ≡ none
+newest-nothing none e = refl
+newest-nothing (some place) e = let z : _≡_ {A = ℕ} 0 1 = cc in absurd (omega arith)

@@ -1,19 +1,22 @@
-// Searches for the newest entry of an ID: down the entries of a sector, and back round the ring of sectors.
+// Searches for the newest entry of an ID, down the entries of a sector and back round the ring of sectors, and for the value that it tells.
 ghost use mathlib.Core.Path.{_≡_};
 ghost use Prim.Native.Nat.{_-_, _*_, _<_};
 ghost use lib.ListN.{length};
-ghost use Rattle.rules.specs.Ground.{blockSize, reservedId, sectorOf};
+ghost use Rattle.rules.specs.Ground.{blockSize, reservedId, sectorOf, imageOf};
 ghost use Rattle.rules.specs.Reading.{viewOf};
 ghost use Rattle.rules.specs.Meaning.{viewAt, next};
 ghost use Rattle.layout.specs.Numbers.{sectorNo};
 ghost use Rattle.layout.specs.Geometry.{blocksOf, sectorsOf, Sound, Backs};
 ghost use Rattle.image.specs.Answer.{viewsIn, Summarizes};
 ghost use Rattle.image.specs.Search.{lastNamed, seek, hitAs, newestAs};
+ghost use Rattle.image.specs.Value.{foundIn, foundAs};
 use crate::Summary;
 use crate::ring;
+use entry::SMALL;
 use entry::look;
 use layout::Block;
 use layout::Geometry;
+use layout::Place;
 use layout::Sector;
 
 // The number of the newest entry of an ID in a sector, 0 being the sector's oldest.
@@ -25,6 +28,18 @@ enum Hit {
 // The newest entry of an ID, a value or a deletion: its sector, and its number there.
 pub enum Newest {
     Entry(Sector, usize),
+    Nothing,
+}
+
+// What an entry says of its value's bytes: only a value of more than 8 has a CRC-32.
+pub enum Check {
+    Unchecked,
+    Crc32(u32),
+}
+
+// The present value of an ID: the place of its first byte in the image, its length, and its CRC-32.
+pub enum Found {
+    Value(Place, usize, Check),
     Nothing,
 }
 
@@ -85,4 +100,49 @@ pub fn newest_entry(
         left -= 1;
     }
     Newest::Nothing
+}
+
+// Entry n of sector s as the value that it tells: a deletion tells none, nor does a done.
+fn value_at(image: &[u8], g: Geometry, s: Sector, n: usize) -> Found
+    requires { ⌜ Backs g (now image) ⌝ }
+    requires { ⌜ sectorNo s < sectorsOf g ⌝ }
+    requires { ⌜ n < length (viewAt (viewsIn g (now image)) (sectorNo s) .entries) ⌝ }
+    ensures { λ r. ⌜ r ≡ foundIn (blocksOf g) (imageOf (blocksOf g) (sectorsOf g) (now (image .entry))) (sectorNo s) n ⌝ }
+{
+    let at = Block::new(g.blocks() - 3 - n);
+    let block = layout::block_bytes(layout::sector_bytes(image, g, s), at);
+    let length = layout::le16(block, look::LENGTH_AT) as usize;
+    if length == 0 {
+        return Found::Nothing;
+    }
+    if length <= SMALL {
+        return Found::Value(g.place(s, at).plus(look::BODY_AT), length, Check::Unchecked);
+    }
+    let offset = layout::le32(block, look::BODY_AT) as usize;
+    let crc = layout::le32(block, look::SECOND_AT);
+    Found::Value(
+        g.place(s, Block::new(0)).plus(offset),
+        length,
+        Check::Crc32(crc),
+    )
+}
+
+// At rest: the value that the newest entry of an ID tells, if it tells one. A deletion ends the search.
+pub fn find(
+    image: &[u8],
+    g: Geometry,
+    sectors: [Summary; Geometry::MAX_SECTORS],
+    w: Sector,
+    id: u32,
+) -> Found
+    requires { ⌜ Backs g (now image) ⌝ }
+    requires { ⌜ Summarizes (viewsIn g (now image)) sectors ⌝ }
+    requires { ⌜ sectorNo w < sectorsOf g ⌝ }
+    requires { ⌜ (id ≡ reservedId → ⊥) ⌝ }
+    ensures { λ r. ⌜ r ≡ foundAs (blocksOf g) (imageOf (blocksOf g) (sectorsOf g) (now (image .entry))) (seek id (sectorsOf g) (next (sectorsOf g) (sectorNo w)) (sectorsOf g - 1) (viewsIn g (now (image .entry)))) ⌝ }
+{
+    let Newest::Entry(s, n) = newest_entry(image, g, sectors, w, id) else {
+        return Found::Nothing;
+    };
+    value_at(image, g, s, n)
 }

@@ -8,7 +8,7 @@ use native.Mathlib.Nat.{mul-le-mul}
 use native.Mathlib.Omega.{arith}
 use lib.ListN.{length}
 use Rattle.rules.specs.Notation.{if_then_else_}
-use Rattle.rules.specs.Ground.{blockSize, legalSizes, storeBytes}
+use Rattle.rules.specs.Ground.{blockSize, legalSizes, placeOf, storeBytes}
 use Rattle.rules.proofs.Format.Ground.{IsLegal, legal-true, legal-false, legal-bounds, length-store-bytes}
 use Rattle.layout.specs.declared.Geometry.{Geometry}
 use Rattle.layout.specs.declared.Sizes.{Sizes}
@@ -19,6 +19,10 @@ use Rattle.layout.specs.Geometry.{blocksOf, sectorsOf, sizesOf, Sound, B
 pub few-blocks : (g : Geometry) → Sound g → (s b : ℕ) → s < sectorsOf g → b < blocksOf g → s * blocksOf g + b < 262144
 few-blocks g k s b hs hb =
     omega (arith, k .blocks-to, mul-le-mul {n₁ = s} {m₁ = blocksOf g} {n₂ = 63} {m₂ = 4096} (omega (arith, k .sectors-to)) (k .blocks-to))
+
+pub place-small : (g : Geometry) → Sound g → (s b : ℕ) → s < sectorsOf g → b < blocksOf g → placeOf (blocksOf g) s b < 4194304
+unfolding placeOf
+place-small g k s b hs hb = omega (arith, few-blocks g k s b hs hb)
 
 -- ---- the answer by the facts
 

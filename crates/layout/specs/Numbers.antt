@@ -18,6 +18,9 @@ blockNo b = b .0
 abbrev pub blockNumbered : ℕ → Block
 blockNumbered n = record { 0 = n }
 
--- a byte place
+-- a byte place, and the place of a number
 abbrev pub placeNo : Place → ℕ
 placeNo p = p .0
+
+abbrev pub placeAt : ℕ → Place
+placeAt n = record { 0 = n }
