@@ -9,16 +9,18 @@ use lib.ListN.{getD}
 use Rattle.rules.specs.Notation.{all, placesFrom}
 use Rattle.rules.specs.Ground.{Sector, imageOf}
 use Rattle.rules.specs.Reading.{View, viewOf}
-use Rattle.rules.specs.Meaning.{State, atRest, notReopened, midTurn, isWorking, isUnfinished, viewAt, stateBy, stateOf}
+use Rattle.rules.specs.Meaning.{State, atRest, notReopened, midTurn, Is, isWorking, isUnfinished, viewAt, stateBy, stateOf}
 use Rattle.rules.proofs.Basics.Notation.{took-then}
 use Rattle.rules.proofs.Blocks.Counting.{Counted, counted}
 use Rattle.rules.proofs.Blocks.Formatted.{length-image}
 use Rattle.rules.proofs.Blocks.OnImage.{view-at}
+use Rattle.rules.proofs.Ring.States.{state-is}
 use Rattle.layout.specs.declared.Geometry.{Geometry}
 use Rattle.layout.specs.Geometry.{blocksOf, sectorsOf, Sound}
 use Rattle.sector.proofs.Laws.{Bounded, entries-bounded}
 use Rattle.image.specs.declared.Survey.{Survey}
 use Rattle.image.specs.Answer.{statusOf, statusAs, summaryAs, viewsIn, Summarizes, Surveys}
+use Rattle.image.proofs.Sectors.{views-count}
 
 status-state : (o : Option State) → statusOf (statusAs o) ≡ o
 status-state none = refl
@@ -35,6 +37,11 @@ module _ {g : Geometry} {bytes : List ℕ} {r : Survey} (k : Surveys g bytes r) 
   survey-summaries {state} e =
       let views : List View = viewsIn g bytes in
       k .sectors (took-then (all (λ (v : View). v .led) views) (stateBy views (placesFrom 0 isWorking views) (placesFrom 0 isUnfinished views)) none (Option·none-ne-some state) e .0)
+
+-- the working sector of an image at rest is one of its sectors
+pub rest-inside : (g : Geometry) (bytes : List ℕ) (w : ℕ) → stateOf (viewsIn g bytes) ≡ some (atRest w) → w < sectorsOf g
+unfolding Is
+rest-inside g bytes w e = omega (arith, state-is (viewsIn g bytes) (atRest w) e .here, views-count g bytes)
 
 -- what holds of the view of any sector holds of those of an image: what its entries come to stays within its blocks
 module _ (g : Geometry) (bytes : List ℕ) (s : ℕ) (inside : s < sectorsOf g) where

@@ -9,6 +9,7 @@ use native.Mathlib.Omega.{arith}
 use lib.ListN.{length}
 use Rattle.rules.specs.Notation.{if_then_else_}
 use Rattle.rules.specs.Ground.{blockSize, legalSizes, placeOf, storeBytes}
+use Rattle.rules.proofs.Basics.Notation.{took-else}
 use Rattle.rules.proofs.Format.Ground.{IsLegal, legal-true, legal-false, legal-bounds, length-store-bytes}
 use Rattle.layout.specs.declared.Geometry.{Geometry}
 use Rattle.layout.specs.declared.Sizes.{Sizes}
@@ -55,6 +56,12 @@ from-sizes size count len g e = go (legalSizes size count len) refl e
         let same : made ≡ g = cc in
         record { legal = h; blocks = ap blocksOf (sym same); sectors = ap sectorsOf (sym same) }
     go false h e = let z : _≡_ {A = ℕ} 0 1 = cc in absurd (omega arith)
+
+pub not-sizes : (size count len : ℕ) → sizesOf size count len ≡ Illegal → legalSizes size count len ≡ false
+unfolding sizesOf
+not-sizes size count len e =
+    took-else (legalSizes size count len) (Legal (record { blocks = size / blockSize; sectors = count })) Illegal
+    (λ x. let z : _≡_ {A = ℕ} 0 1 = cc x in omega arith) e .0
 
 -- legal sizes back every image of their length
 pub legal-backs : (size count len : ℕ) (g : Geometry) → sizesOf size count len ≡ Legal g → (bytes : List ℕ) → length bytes ≡ len → Backs g bytes

@@ -155,13 +155,14 @@ plus-requires-2 c κs =
     let k = l .before .before .before .before .before .before in
     let g = k .args .g in
     let many : 8 < lengthOf (the-block l) = omega (arith, told l, c .before .before .before .before .if2 .left) in
-    omega
-    (arith,
-    c .place2 .ensures,
-    place-small g (k .pre .0 .sound) (k .args .s .0) (blockNo (c .before .new2 .result)) (k .pre .1 .0) (omega (arith, ap blockNo (c .before .new2 .ensures), k .pre .0 .sound .blocks-from)),
-    offset (c .before .before .before),
-    k .pre .0 .sound .blocks-to,
-    offset-small g (k .args .image .now) (k .pre .0) (k .args .s .0) (k .args .n) (k .pre .1 .0) (k .pre .1 .1) many)
+    omega (
+      arith,
+      c .place2 .ensures,
+      place-small g (k .pre .0 .sound) (k .args .s .0) (blockNo (c .before .new2 .result)) (k .pre .1 .0) (omega (arith, ap blockNo (c .before .new2 .ensures), k .pre .0 .sound .blocks-from)),
+      offset (c .before .before .before),
+      k .pre .0 .sound .blocks-to,
+      offset-small g (k .args .image .now) (k .pre .0) (k .args .s .0) (k .args .n) (k .pre .1 .0) (k .pre .1 .1) many,
+    )
 
 returns-3 : tie.Need-returns-3
 returns-3 c =
