@@ -1,4 +1,5 @@
 // The calls over a lent image. The image is the only state: each call works out afresh what it means.
+mod numbers;
 mod value;
 
 ghost use mathlib.Core.Path.{_≡_};

@@ -1,0 +1,55 @@
+// The paper's numbers of the answers.
+ghost use mathlib.Core.Path.{_≡_};
+ghost use Rattle.rules.specs.Calls as rule;
+ghost use Rattle.store.specs.Answer.{refusalOf, numbersOf};
+use crate::Refusal;
+use crate::Reply;
+
+impl Refusal {
+    pub fn number(self) -> u32
+        ensures { λ r. ⌜ r ≡ rule.refusalNumber (refusalOf self) ⌝ }
+    {
+        match self {
+            Refusal::Geometry => 1,
+            Refusal::NoStore => 2,
+            Refusal::Unfinished => 3,
+            Refusal::Reserved => 4,
+            Refusal::Empty => 5,
+            Refusal::TooLong => 6,
+            Refusal::NoRoom => 7,
+            Refusal::Absent => 8,
+            Refusal::BadData => 9,
+            Refusal::ShortBuffer(_) => 10,
+        }
+    }
+
+    // The length that goes with it: a short buffer's; otherwise 0.
+    pub fn length(self) -> usize
+        ensures { λ r. ⌜ r ≡ rule.lengthTold (refusalOf self) ⌝ }
+    {
+        match self {
+            Refusal::ShortBuffer(length) => length,
+            _ => 0,
+        }
+    }
+}
+
+impl Reply {
+    pub fn number(self) -> u32
+        ensures { λ r. ⌜ r ≡ numbersOf self .number ⌝ }
+    {
+        match self {
+            Reply::Value(_) => 0,
+            Reply::Refused(refusal) => refusal.number(),
+        }
+    }
+
+    pub fn length(self) -> usize
+        ensures { λ r. ⌜ r ≡ numbersOf self .length ⌝ }
+    {
+        match self {
+            Reply::Value(length) => length,
+            Reply::Refused(refusal) => refusal.length(),
+        }
+    }
+}
