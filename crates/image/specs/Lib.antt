@@ -2,3 +2,4 @@
 pub mod Answer
 pub mod Search
 pub mod Value
+pub mod Live

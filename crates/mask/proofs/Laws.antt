@@ -9,12 +9,13 @@ use native.Mathlib.Numerals.{add-one}
 use native.Mathlib.Omega.{arith}
 use lib.Dec.{eqb}
 use lib.ListN.{length, getD, set, take, replicate, length-append, length-map}
-use lib.Seq.{length-take-le, take-suc, append-snoc, set-append-seam}
+use lib.Seq.{length-take-le, take-suc}
 use borrow.Author.Tests.{ne-eqb}
 use Rattle.rules.specs.Notation.{if_then_else_, isEmpty, placesFrom}
 use Rattle.rules.specs.Ground.{maxSectors}
 use Rattle.mask.specs.declared.Mask.{Mask}
-use Rattle.mask.specs.Flags.{flagsOf, sectorsIn, isSingleton, Holds}
+use Rattle.mask.specs.Flags.{flagsOf, sectorsIn, isSingleton, padded, Holds}
+use Rattle.mask.proofs.Padded.{padded-next, padded-unset}
 
 -- ---- none, one, more
 
@@ -70,7 +71,7 @@ places-padded k n (f ∷ fs) =
 
 module _ {m : Mask} {flags : List Bool} (h : Holds m flags) where
   pub held-places : sectorsIn m ≡ placesFrom 0 (λ (f : Bool). f) flags
-  unfolding sectorsIn
+  unfolding sectorsIn padded
   held-places =
       ap (placesFrom 0 (λ (f : Bool). f)) (h .exact) ∙ places-padded 0 (maxSectors - length flags) flags
 
@@ -88,35 +89,20 @@ tested-places test xs h = held-places h ∙ sym (places-map test 0 xs)
 
 -- ---- one flag more
 
--- the flag of the sector after those held
-next-flag : {m : Mask} {flags : List Bool} → Holds m flags → length flags < maxSectors
-    → flagsOf m ≡ flags ++ false ∷ replicate (maxSectors - suc (length flags)) false
-next-flag {m} {flags} h room =
-    let one-left : maxSectors - length flags ≡ suc (maxSectors - suc (length flags)) = omega arith in
-    h .exact ∙ ap (λ (n : ℕ). flags ++ replicate n false) one-left
-
 pub held-more : {m r : Mask} {flags : List Bool} (f : Bool) → Holds m flags → length flags < maxSectors
     → flagsOf r ≡ set (flagsOf m) (length flags) f → Holds r (flags ++ (f ∷ []))
 held-more {m} {r} {flags} f h room e =
-    let n : ℕ = maxSectors - suc (length flags) in
     let longer : length (flags ++ (f ∷ [])) ≡ length flags + 1 = length-append flags (f ∷ []) in
-    let left : n ≡ maxSectors - length (flags ++ (f ∷ [])) = omega arith in
     record {
       few = omega arith;
-      exact = e
-          ∙ ap (λ (l : List Bool). set l (length flags) f) (next-flag h room)
-          ∙ set-append-seam flags false (replicate n false) f
-          ∙ sym (append-snoc flags f (replicate n false))
-          ∙ ap (λ (k : ℕ). flags ++ (f ∷ []) ++ replicate k false) left;
+      exact = e ∙ ap (λ (l : List Bool). set l (length flags) f) (h .exact) ∙ padded-next maxSectors flags room f;
     }
 
 -- which the mask itself holds, unset
 unset-next : {m : Mask} {flags : List Bool} → Holds m flags → length flags < maxSectors
     → flagsOf m ≡ set (flagsOf m) (length flags) false
 unset-next {m} {flags} h room =
-    let rest : List Bool = replicate (maxSectors - suc (length flags)) false in
-    let whole : flagsOf m ≡ flags ++ false ∷ rest = next-flag h room in
-    whole ∙ sym (set-append-seam flags false rest false) ∙ ap (λ (l : List Bool). set l (length flags) false) (sym whole)
+    h .exact ∙ padded-unset maxSectors flags room ∙ ap (λ (l : List Bool). set l (length flags) false) (sym (h .exact))
 
 -- ---- a survey of elements, upward: after s of them the mask holds the flags of the first s
 

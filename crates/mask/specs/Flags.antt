@@ -27,7 +27,11 @@ isSingleton [] = false
 isSingleton (x ∷ []) = true
 isSingleton (x ∷ y ∷ xs) = false
 
+-- these flags, and none set behind them, so that there are as many as there is room for
+unfoldable pub padded : (room : ℕ) → List Bool → List Bool
+padded room flags = flags ++ replicate (room - length flags) false
+
 -- The mask holds these flags, and no sector after them.
 pub record Holds (m : Mask) (flags : List Bool) : Type 0 where
   pub few : length flags ≤ maxSectors
-  pub exact : flagsOf m ≡ flags ++ replicate (maxSectors - length flags) false
+  pub exact : flagsOf m ≡ padded maxSectors flags

@@ -1,4 +1,6 @@
-// Class masks: a set of sectors, one bit a sector.
+// Sets by bits: class masks of sectors, and marks of a sector's entries.
+pub mod marks;
+
 ghost use mathlib.Core.Path.{_≡_};
 ghost use mathlib.Core.Bool.{true};
 ghost use mathlib.Core.List.{[], _∷_};

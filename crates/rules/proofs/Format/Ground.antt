@@ -46,7 +46,7 @@ module _ {ℓ} {A : Type ℓ} where
 -- ---- the bytes of an image and its blocks
 
 -- the bytes of sector s
-abbrev sectorBytes : (B : ℕ) → List ℕ → (s : ℕ) → List ℕ
+abbrev pub sectorBytes : (B : ℕ) → List ℕ → (s : ℕ) → List ℕ
 sectorBytes B bytes s = take (B * blockSize) (drop (s * (B * blockSize)) bytes)
 
 pub sector-of-image : (B S : ℕ) (bytes : List ℕ) (s : ℕ) → s < S → getD (imageOf B S bytes) s [] ≡ sectorOf B (sectorBytes B bytes s)

@@ -54,23 +54,28 @@ module _ (u : ℕ) (views : List View) (here : u < length views) where
       let below : k < length (allBut u views) = omega (arith, length-allBut u views here) in
       live-at (allBut u views) k below ∙ simp (view, newer)
 
-  live-behind : (k s : ℕ) → s ≡ suc u + k → s < length views → getD (liveEach (allBut u views)) k [] ≡ liveIn u s views
+  -- the sectors at the places after it are the newer ones
+  pub newer-behind : (k s : ℕ) → s ≡ suc u + k → s < length views → drop (suc k) (allBut u views) ≡ newerThan u s views
   unfolding newerThan allBut
-  live-behind k s e h =
+  newer-behind k s e h =
       let behind : List View = drop (suc u) views in
       let sized : length behind ≡ length views - suc u = length-drop (suc u) views in
       let after : suc u + suc k ≡ suc s = omega arith in
-      placed k s (omega arith) (view-behind k s e h)
-      (drop-append-le (suc k) behind (take u views) (omega arith) ∙ simp (drop-drop (suc k) (suc u) views, after, lt-ltb u s (omega arith), if-true))
+      drop-append-le (suc k) behind (take u views) (omega arith) ∙ simp (drop-drop (suc k) (suc u) views, after, lt-ltb u s (omega arith), if-true)
 
-  live-before : (k s : ℕ) → k ≡ length views - suc u + s → s < u → getD (liveEach (allBut u views)) k [] ≡ liveIn u s views
+  pub newer-before : (k s : ℕ) → k ≡ length views - suc u + s → s < u → drop (suc k) (allBut u views) ≡ newerThan u s views
   unfolding newerThan allBut
-  live-before k s e h =
+  newer-before k s e h =
       let behind : List View = drop (suc u) views in
       let sized : length behind ≡ length views - suc u = length-drop (suc u) views in
       let after : suc k ≡ length behind + suc s = omega arith in
-      placed k s (omega arith) (view-before k s e h)
-      (ap (λ (n : ℕ). drop n (behind ++ take u views)) after ∙ drop-append-add behind (take u views) (suc s) ∙ simp (le-ltb u s (omega arith), if-false))
+      ap (λ (n : ℕ). drop n (behind ++ take u views)) after ∙ drop-append-add behind (take u views) (suc s) ∙ simp (le-ltb u s (omega arith), if-false)
+
+  pub live-behind : (k s : ℕ) → s ≡ suc u + k → s < length views → getD (liveEach (allBut u views)) k [] ≡ liveIn u s views
+  live-behind k s e h = placed k s (omega arith) (view-behind k s e h) (newer-behind k s e h)
+
+  pub live-before : (k s : ℕ) → k ≡ length views - suc u + s → s < u → getD (liveEach (allBut u views)) k [] ≡ liveIn u s views
+  live-before k s e h = placed k s (omega arith) (view-before k s e h) (newer-before k s e h)
 
   -- Every sector but u has a place in the ring, and every place is that of such a sector.
   pub place-of : (s : ℕ) → s < length views → (s ≡ u → ⊥)

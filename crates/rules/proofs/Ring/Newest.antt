@@ -7,19 +7,19 @@ use Prim.Native.Nat.{ℕ, suc, _+_, _-_, _<_, _≤_}
 use native.Mathlib.Decide.{decLt}
 use native.Mathlib.Omega.{arith}
 use lib.Dec.{eqb}
-use lib.ListN.{length, getD, take}
+use lib.ListN.{length, getD, take, drop}
 use lib.Seq.{take-suc, take-all}
 use borrow.Author.Tests.{ne-eqb, eqb-true, eqb-false, lt-ltb, le-ltb}
 use Rattle.rules.specs.Notation.{when}
 use Rattle.rules.specs.Ground.{reservedId}
 use Rattle.rules.specs.Look.{Head, done, deletion, value}
 use Rattle.rules.specs.Reading.{Entry, View}
-use Rattle.rules.specs.Meaning.{noView, viewAt, next, previous, ringSector, allBut, entriesIn, isNamed, isValue, lookup}
+use Rattle.rules.specs.Meaning.{noView, viewAt, next, previous, ringSector, allBut, entriesIn, isNamed, isValue, lookup, newerThan, liveEach, liveIn}
 use Rattle.rules.specs.Stores.{idIn}
 use Rattle.rules.proofs.Basics.Notation.{if-true, if-false, if-cases}
 use Rattle.rules.proofs.Ring.Order.{next-cases, length-allBut}
 use Rattle.rules.proofs.Ring.History.{entriesIn-last}
-use Rattle.rules.proofs.Ring.LiveBySector.{view-behind, view-before}
+use Rattle.rules.proofs.Ring.LiveBySector.{view-behind, view-before, newer-behind, newer-before, live-behind, live-before}
 use Rattle.rules.proofs.Ring.Changes.{lookup-other, lookup-named}
 
 -- ---- down in a sector
@@ -91,6 +91,22 @@ module _ (S u : ℕ) (spare : u < S) where
   pub ring-down : (k : ℕ) → suc k < S → ringSector S u k ≡ previous S (ringSector S u (suc k))
   ring-down k h = sym (previous-next S (ringSector S u k) (ring-lt k (omega arith))) ∙ ap (previous S) (ring-up k h)
 
+  -- no sector has two places
+  pub ring-apart : (j k : ℕ) → j < k → k < S → ringSector S u k ≡ ringSector S u j → ⊥
+  ring-apart j k below h same =
+      ⊎-elim
+      (λ a. ⊎-elim (λ b. omega arith) (λ b. omega arith) (ring-cases S u k))
+      (λ a. ⊎-elim (λ b. omega arith) (λ b. omega arith) (ring-cases S u k))
+      (ring-cases S u j)
+
+-- the first place is that of the successor
+pub ring-first : (S u : ℕ) → u < S → ringSector S u 0 ≡ next S u
+ring-first S u here =
+    ⊎-elim
+    (λ a. ⊎-elim (λ b. omega arith) (λ b. omega arith) (next-cases S u))
+    (λ a. ⊎-elim (λ b. omega arith) (λ b. omega arith) (next-cases S u))
+    (ring-cases S u 0)
+
 -- the last place is that of the working sector, its successor being the spare
 pub ring-working : (S w : ℕ) → w < S → 2 ≤ S → ringSector S (next S w) (S - 2) ≡ w
 ring-working S w here two =
@@ -99,7 +115,34 @@ ring-working S w here two =
     (λ a. ⊎-elim (λ b. omega arith) (λ b. omega arith) (next-cases S w))
     (ring-cases S (next S w) (S - 2))
 
+-- The place of a sector: the sectors at the places after it are the newer ones.
+pub record RingPlace (u s : ℕ) (views : List View) : Type 0 where
+  pub place : ℕ
+  pub low : place < length views - 1
+  pub at : ringSector (length views) u place ≡ s
+  pub newer : drop (suc place) (allBut u views) ≡ newerThan u s views
+
 module _ (u : ℕ) (views : List View) (here : u < length views) where
+  -- every sector but the spare has one
+  pub ring-place : (s : ℕ) → s < length views → (s ≡ u → ⊥) → RingPlace u s views
+  ring-place s h other =
+      let S : ℕ = length views in
+      by-cases (decLt u s)
+      (λ behind.
+      record {
+        place = s - suc u;
+        low = omega arith;
+        at = ring-low S u (s - suc u) (omega arith) ∙ omega arith;
+        newer = newer-behind u views here (s - suc u) s (omega arith) h;
+      })
+      (λ before.
+      record {
+        place = S - suc u + s;
+        low = omega arith;
+        at = ring-high S u (S - suc u + s) (omega arith) ∙ omega arith;
+        newer = newer-before u views here (S - suc u + s) s refl (omega arith);
+      })
+
   -- which view stands at place k
   pub ring-view : (k : ℕ) → k < length views - 1 → getD (allBut u views) k noView ≡ viewAt views (ringSector (length views) u k)
   unfolding viewAt
@@ -107,6 +150,14 @@ module _ (u : ℕ) (views : List View) (here : u < length views) where
       ⊎-elim
       (λ a. view-behind u views here k (ringSector (length views) u k) (omega arith) (omega arith))
       (λ a. view-before u views here k (ringSector (length views) u k) (omega arith) (omega arith))
+      (ring-cases (length views) u k)
+
+  -- and its live values
+  pub ring-live : (k : ℕ) → k < length views - 1 → getD (liveEach (allBut u views)) k [] ≡ liveIn u (ringSector (length views) u k) views
+  ring-live k h =
+      ⊎-elim
+      (λ a. live-behind u views here k (ringSector (length views) u k) (omega arith) (omega arith))
+      (λ a. live-before u views here k (ringSector (length views) u k) (omega arith) (omega arith))
       (ring-cases (length views) u k)
 
   -- the entries up to place k are the older ones and those of that sector
