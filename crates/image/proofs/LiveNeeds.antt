@@ -18,7 +18,8 @@ use Rattle.image.specs.Search.{noEntry}
 use Rattle.image.specs.Live.{liveFlagsIn}
 use Rattle.image.proofs.Laws.{entries-counted}
 use Rattle.image.proofs.LiveLaws.{chosen, chosen-here, chosen-passed, chosen-end, length-live-in, chosen-live-in}
-use Rattle.image.proofs.LiveEntries.{entryBlock, live-need}
+use Rattle.image.proofs.EntryBlocks.{entryBlock}
+use Rattle.image.proofs.LiveEntries.{live-need}
 
 -- the needs of the live values from entry n on
 abbrev pub needsFrom : (u s : ℕ) → List View → (n : ℕ) → ℕ

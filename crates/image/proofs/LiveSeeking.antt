@@ -18,9 +18,10 @@ use Rattle.rules.proofs.Ring.History.{entriesIn-last}
 use Rattle.rules.proofs.Ring.Changes.{areNamed}
 use Rattle.rules.proofs.Ring.Newest.{ring-apart, ring-view, RingPlace, ring-place}
 use Rattle.layout.specs.declared.Sector.{Sector}
-use Rattle.layout.specs.Numbers.{sectorNo, sectorAt}
+use Rattle.layout.specs.Numbers.{sectorNo}
 use Rattle.image.specs.declared.search.Newest.the-variants as newest
 use Rattle.image.specs.Search.{noEntry, lastNamed, inSector, seek, newestAs}
+use Rattle.image.proofs.SearchLaws.{newest-at, newest-nothing}
 use Rattle.image.proofs.LastNamed.{isFound, found, last-is}
 
 -- is it this place?
@@ -113,13 +114,8 @@ sought-newest id u s n views here sector other inside named =
 
 pub place-nothing : (s n : ℕ) (o : Option (ℕ × ℕ)) → newestAs o ≡ newest.Nothing → isPlace s n o ≡ false
 unfolding isPlace
-place-nothing s n none e = refl
-place-nothing s n (some place) e = let z : _≡_ {A = ℕ} 0 1 = cc in absurd (omega arith)
+place-nothing s n o e = ap (isPlace s n) (newest-nothing o e)
 
 pub place-entry : (s n : ℕ) (o : Option (ℕ × ℕ)) {t : Sector} {m : ℕ} → newestAs o ≡ newest.Entry t m → isPlace s n o ≡ (eqb (sectorNo t) s && eqb m n)
 unfolding isPlace
-place-entry s n none {t} {m} e = let z : _≡_ {A = ℕ} 0 1 = cc in absurd (omega arith)
-place-entry s n (some place) {t} {m} e =
-    let sector : sectorAt (place .0) ≡ t = cc in
-    let number : place .1 ≡ m = cc in
-    rw (ap sectorNo sector, number)
+place-entry s n o e = ap (isPlace s n) (newest-at o e)

@@ -32,7 +32,8 @@ use Rattle.image.specs.declared.search.Found.the-variants as found
 use Rattle.image.specs.Answer.{viewsIn}
 use Rattle.image.specs.Search.{noEntry, seek, toldAt}
 use Rattle.image.specs.Value.{entryIn, valuePlace, checkAs, passes, foundIn, foundAs}
-use Rattle.image.proofs.Sectors.{views-count, view-read}
+use Rattle.image.proofs.Sectors.{views-count}
+use Rattle.image.proofs.EntryBlocks.{entry-lies}
 use Rattle.image.proofs.SearchLaws.{StandsAt, sought-stands, sought-tells}
 
 -- ---- the kind by the length
@@ -74,18 +75,9 @@ module _ (g : Geometry) (bytes : List ℕ) (k : Backs g bytes) (s n : ℕ) (insi
   abbrev e : Entry
   e = entryIn B im s n
 
-  -- the entry lies in its sector's bytes
-  pub lies : LiesAt sector (B - 3 - n) block e
-  unfolding blockAt entryIn viewOf
-  lies =
-      let same : getD im s [] ≡ sectorOf B sector = sector-of-image B (sectorsOf g) bytes s inside in
-      let sized : length sector ≡ B * blockSize = length-sector-bytes B (sectorsOf g) bytes s inside (k .sized) in
-      subst (λ (l : Sector). LiesAt sector (B - 3 - n) (getD l (B - 3 - n) []) e) (sym same)
-      (subst
-      (λ (v : View). n < length (v .entries) → LiesAt sector (B - 3 - n) (getD (sectorOf B sector) (B - 3 - n) []) (getD (v .entries) n noEntry))
-      (sym (view-read g bytes s inside refl))
-      (λ h. lies-at B _ sector (k .sound .blocks-from) sized n noEntry h)
-      here)
+  lies : LiesAt sector (B - 3 - n) block e
+  unfolding entryIn
+  lies = entry-lies g bytes k s n inside here
 
   sector-sized : length sector ≡ B * blockSize
   sector-sized = length-sector-bytes B (sectorsOf g) bytes s inside (k .sized)

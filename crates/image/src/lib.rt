@@ -1,4 +1,5 @@
 // What an image means: its sectors, the state that they make together, the newest entry of an ID, and the live values.
+pub mod entries;
 pub mod live;
 pub mod ring;
 pub mod search;

@@ -14,26 +14,13 @@ ghost use Rattle.mask.specs.Marks.{maxMarks, marksOf};
 ghost use Rattle.image.specs.Answer.{viewsIn, Summarizes};
 ghost use Rattle.image.specs.Live.{liveFlagsIn};
 use crate::Summary;
+use crate::entries;
 use crate::search;
 use crate::search::Newest;
 use entry::look;
-use layout::Block;
 use layout::Geometry;
 use layout::Sector;
 use mask::marks::Marks;
-
-// The block of entry n of sector s, 0 being the sector's oldest.
-fn entry_block(image: &[u8], g: Geometry, s: Sector, n: usize) -> &[u8]
-    requires { ⌜ Backs g (now image) ⌝ }
-    requires { ⌜ sectorNo s < sectorsOf g ⌝ }
-    requires { ⌜ n + 3 ≤ blocksOf g ⌝ }
-    ensures { λ r. ⌜ now r ≡ blockAt (imageOf (blocksOf g) (sectorsOf g) (now (image .entry))) (sectorNo s) (blocksOf g - 3 - n) ⌝ }
-{
-    layout::block_bytes(
-        layout::sector_bytes(image, g, s),
-        Block::new(g.blocks() - 3 - n),
-    )
-}
 
 // What the value that is entry n of sector s needs: its own block, and its data blocks.
 fn value_need(image: &[u8], g: Geometry, s: Sector, n: usize) -> usize
@@ -42,7 +29,7 @@ fn value_need(image: &[u8], g: Geometry, s: Sector, n: usize) -> usize
     requires { ⌜ n + 3 ≤ blocksOf g ⌝ }
     ensures { λ r. ⌜ r ≡ 1 + dataBlocks (lengthOf (blockAt (imageOf (blocksOf g) (sectorsOf g) (now (image .entry))) (sectorNo s) (blocksOf g - 3 - n))) ⌝ }
 {
-    let block = entry_block(image, g, s, n);
+    let block = entries::entry_block(image, g, s, n);
     1 + look::data_blocks(layout::le16(block, look::LENGTH_AT) as usize)
 }
 
@@ -63,7 +50,7 @@ fn is_live(
     requires { ⌜ n < length (viewAt (viewsIn g (now image)) (sectorNo s) .entries) ⌝ }
     ensures { λ r. ⌜ r ≡ getD (liveFlagsIn (next (sectorsOf g) (sectorNo w)) (sectorNo s) (viewsIn g (now (image .entry)))) n false ⌝ }
 {
-    let block = entry_block(image, g, s, n);
+    let block = entries::entry_block(image, g, s, n);
     let id = layout::le32(block, look::ID_AT);
     if id == Geometry::RESERVED_ID {
         return false;

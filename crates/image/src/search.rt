@@ -11,6 +11,7 @@ ghost use Rattle.image.specs.Answer.{viewsIn, Summarizes};
 ghost use Rattle.image.specs.Search.{lastNamed, seek, hitAs, newestAs};
 ghost use Rattle.image.specs.Value.{foundIn, foundAs};
 use crate::Summary;
+use crate::entries;
 use crate::ring;
 use entry::SMALL;
 use entry::look;
@@ -109,14 +110,14 @@ fn value_at(image: &[u8], g: Geometry, s: Sector, n: usize) -> Found
     requires { ⌜ n < length (viewAt (viewsIn g (now image)) (sectorNo s) .entries) ⌝ }
     ensures { λ r. ⌜ r ≡ foundIn (blocksOf g) (imageOf (blocksOf g) (sectorsOf g) (now (image .entry))) (sectorNo s) n ⌝ }
 {
-    let at = Block::new(g.blocks() - 3 - n);
-    let block = layout::block_bytes(layout::sector_bytes(image, g, s), at);
+    let block = entries::entry_block(image, g, s, n);
     let length = layout::le16(block, look::LENGTH_AT) as usize;
     if length == 0 {
         return Found::Nothing;
     }
     if length <= SMALL {
-        return Found::Value(g.place(s, at).plus(look::BODY_AT), length, Check::Unchecked);
+        let place = g.place(s, Block::new(g.blocks() - 3 - n));
+        return Found::Value(place.plus(look::BODY_AT), length, Check::Unchecked);
     }
     let offset = layout::le32(block, look::BODY_AT) as usize;
     let crc = layout::le32(block, look::SECOND_AT);

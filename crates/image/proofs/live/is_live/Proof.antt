@@ -17,7 +17,8 @@ use Rattle.layout.specs.Numbers.{sectorNo}
 use Rattle.image.specs.Answer.{viewsIn}
 use Rattle.image.specs.Search.{seek}
 use Rattle.image.specs.Live.{liveFlagsIn}
-use Rattle.image.proofs.LiveEntries.{entryBlock, entry-low, entry-whole, reserved-dead, empty-dead, value-live}
+use Rattle.image.proofs.EntryBlocks.{entryBlock, entry-low, entry-whole}
+use Rattle.image.proofs.LiveEntries.{reserved-dead, empty-dead, value-live}
 use Rattle.image.proofs.LiveSeeking.{isPlace, place-nothing, place-entry}
 use Rattle.image.proofs.live.is_live.Statement.{statement}
 use Rattle.image.proofs.live.is_live.Tie as tie

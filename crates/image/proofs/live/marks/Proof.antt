@@ -19,7 +19,7 @@ use Rattle.mask.specs.Marks.{maxMarks, marksOf}
 use Rattle.mask.proofs.Padded.{padded-set, padded-kept}
 use Rattle.image.specs.Answer.{noSummary, viewsIn}
 use Rattle.image.specs.Live.{liveFlagsIn}
-use Rattle.image.proofs.LiveEntries.{entries-noted, entries-few}
+use Rattle.image.proofs.EntryBlocks.{entries-noted, entries-few}
 use Rattle.image.proofs.LiveLaws.{length-live-in}
 use Rattle.image.proofs.live.marks.Statement.{statement}
 use Rattle.image.proofs.live.marks.Tie as tie

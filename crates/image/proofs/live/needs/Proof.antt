@@ -16,7 +16,7 @@ use Rattle.mask.specs.Marks.{maxMarks, marksOf}
 use Rattle.mask.proofs.Padded.{padded-at}
 use Rattle.image.specs.Answer.{noSummary, viewsIn}
 use Rattle.image.specs.Live.{liveFlagsIn}
-use Rattle.image.proofs.LiveEntries.{entry-low, entries-noted, entries-few}
+use Rattle.image.proofs.EntryBlocks.{entry-low, entries-noted, entries-few}
 use Rattle.image.proofs.LiveNeeds.{needsFrom, needs-all, needs-here, needs-passed, needs-none, needs-few}
 use Rattle.image.proofs.live.needs.Statement.{statement}
 use Rattle.image.proofs.live.needs.Tie as tie

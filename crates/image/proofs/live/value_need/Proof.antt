@@ -10,7 +10,7 @@ use Rattle.rules.specs.Entry.{lengthOf}
 use Rattle.rules.specs.Look.{dataBlocks}
 use Rattle.rules.proofs.Format.Look.{data-blocks-le}
 use Rattle.layout.specs.Numbers.{sectorNo}
-use Rattle.image.proofs.LiveEntries.{entry-whole}
+use Rattle.image.proofs.EntryBlocks.{entry-whole}
 use Rattle.image.proofs.live.value_need.Statement.{statement}
 use Rattle.image.proofs.live.value_need.Tie as tie
 

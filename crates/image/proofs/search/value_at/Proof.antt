@@ -1,99 +1,63 @@
 -- `search::value_at`: the fields of the entry's block tell the value.
 -- Assumes nothing.
 use mathlib.Core.Path.{_≡_, sym, ap, ap₂, _∙_}
-use mathlib.Core.List.{List}
-use Prim.Native.Nat.{ℕ, _+_, _-_, _*_, _<_, _≤_}
+use Prim.Native.Nat.{ℕ, _+_, _-_, _<_, _≤_}
 use native.Mathlib.Omega.{arith}
 use lib.ListN.{length}
 use borrow.Author.Needs.{needs}
-use Rattle.rules.specs.Ground.{blockSize, imageOf, blockAt, placeOf}
+use Rattle.rules.specs.Ground.{Block, blockSize, placeOf}
 use Rattle.rules.specs.Entry.{lengthOf, offsetOf, crc32Of}
-use Rattle.rules.proofs.Basics.Notation.{if-true}
-use Rattle.rules.proofs.Format.Ground.{length-sector-bytes, length-block-bytes, read-block}
 use Rattle.layout.specs.Geometry.{blocksOf, sectorsOf}
 use Rattle.layout.specs.Numbers.{blockNo, placeAt}
 use Rattle.layout.proofs.Laws.{place-small}
 use Rattle.image.specs.declared.search.Check.the-variants.{Unchecked, Crc32}
 use Rattle.image.specs.declared.search.Found.the-variants.{Value}
-use Rattle.image.proofs.Laws.{entries-counted}
-use Rattle.image.proofs.Valued.{lies, found-none, found-small, found-long, offset-small}
+use Rattle.image.proofs.EntryBlocks.{entryBlock, entry-low, entry-whole}
+use Rattle.image.proofs.Valued.{found-none, found-small, found-long, offset-small}
 use Rattle.image.proofs.search.value_at.Statement.{statement}
 use Rattle.image.proofs.search.value_at.Tie as tie
 
 -- the entry's block is one of its sector's
-low : (c : tie.After-blocks2)
-    → let k = c .before .before in
-    k .args .n + 3 < blocksOf (k .args .g)
-low c =
-    let k = c .before .before in
-    omega (arith, k .pre .1 .1, entries-counted (k .args .g) (k .args .image .now) (k .args .s .0) (k .pre .1 .0) (k .pre .0 .sound) .few)
+low : (k : tie.Start) → k .args .n + 3 ≤ blocksOf (k .args .g)
+low k = entry-low (k .args .g) (k .args .image .now) (k .pre .0) (k .args .s .0) (k .args .n) (k .pre .1 .0) (k .pre .1 .1)
 
-at : (c : tie.After-new)
-    → let k = c .before .before .before in
-    blockNo (c .new .result) ≡ blocksOf (k .args .g) - 3 - k .args .n
-at c = ap blockNo (c .new .ensures) ∙ ap (λ (b : ℕ). b - 3 - c .before .before .before .args .n) (c .before .blocks2 .ensures)
-
--- what is read is that block
-read : (c : tie.After-block-bytes)
-    → let k = c .before .before .before .before .before in
-    c .block-bytes .result .now
-    ≡ blockAt (imageOf (blocksOf (k .args .g)) (sectorsOf (k .args .g)) (k .args .image .now)) (k .args .s .0) (blocksOf (k .args .g) - 3 - k .args .n)
-read c =
-    let k = c .before .before .before .before .before in
-    let g = k .args .g in
-    let block = c .before .before .new in
-    let sector = c .before .sector-bytes in
-    rw (sector .ensures, ap blockNo (block .ensures), c .before .before .before .blocks2 .ensures) at (c .block-bytes .ensures)
-    ∙ sym (lies g (k .args .image .now) (k .pre .0) (k .args .s .0) (k .args .n) (k .pre .1 .0) (k .pre .1 .1) .own)
-
--- and it is a whole block
-whole : (c : tie.After-block-bytes) → length (c .block-bytes .result .now) ≡ blockSize
+whole : (c : tie.After-entry-block) → length (c .entry-block .result .now) ≡ blockSize
 whole c =
-    let k = c .before .before .before .before .before in
-    let g = k .args .g in
-    let b = blocksOf g - 3 - k .args .n in
-    let inside : b < blocksOf g = omega (arith, low (c .before .before .before)) in
-    ap length (read c ∙ read-block (blocksOf g) (sectorsOf g) (k .args .image .now) (k .args .s .0) b (k .pre .1 .0) inside)
-    ∙ length-block-bytes (blocksOf g) (sectorsOf g) (k .args .image .now) (k .args .s .0) b (k .pre .1 .0) inside (k .pre .0 .sized)
+    let k = c .before .before in
+    ap length (c .entry-block .ensures)
+    ∙ entry-whole (k .args .g) (k .args .image .now) (k .args .s .0) (k .args .n) (k .pre .0) (k .pre .1 .0) (low k)
 
 -- its fields
-abbrev the-block : (c : tie.After-le16) → List ℕ
-the-block c =
-    let k = c .before .before .before .before .before .before in
-    blockAt (imageOf (blocksOf (k .args .g)) (sectorsOf (k .args .g)) (k .args .image .now)) (k .args .s .0) (blocksOf (k .args .g) - 3 - k .args .n)
+abbrev block : tie.Start → Block
+block k = entryBlock (k .args .g) (k .args .image .now) (k .args .s .0) (k .args .n)
 
-told : (c : tie.After-le16) → c .le16 .result ≡ lengthOf (the-block c)
+told : (c : tie.After-le16) → c .le16 .result ≡ lengthOf (block (c .before .before .before))
 unfolding lengthOf
-told c = c .le16 .ensures ∙ ap lengthOf (read (c .before))
+told c = c .le16 .ensures ∙ ap lengthOf (c .before .entry-block .ensures)
 
-offset : (c : tie.After-le32) → c .le32 .result ≡ offsetOf (the-block (c .before .before .before))
+offset : (c : tie.After-le32) → c .le32 .result ≡ offsetOf (block (c .before .before .before .before .before .before))
 unfolding offsetOf
-offset c = c .le32 .ensures ∙ ap offsetOf (read (c .before .before .before .before))
+offset c = c .le32 .ensures ∙ ap offsetOf (c .before .before .before .before .entry-block .ensures)
 
-crc : (c : tie.After-le322) → c .le322 .result ≡ crc32Of (the-block (c .before .before .before .before))
+crc : (c : tie.After-le322) → c .le322 .result ≡ crc32Of (block (c .before .before .before .before .before .before .before))
 unfolding crc32Of
-crc c = c .le322 .ensures ∙ ap crc32Of (read (c .before .before .before .before .before))
+crc c = c .le322 .ensures ∙ ap crc32Of (c .before .before .before .before .before .entry-block .ensures)
 
-blocks-requires : tie.Need-blocks-requires
-blocks-requires c κs = search needs
+-- where the entry stands
+at : (c : tie.After-new)
+    → let k = c .before .before .before .before .before .before .before in
+    blockNo (c .new .result) ≡ blocksOf (k .args .g) - 3 - k .args .n
+at c =
+    ap blockNo (c .new .ensures)
+    ∙ ap (λ (b : ℕ). b - 3 - c .before .before .before .before .before .before .before .args .n) (c .before .blocks2 .ensures)
 
-sub-new : tie.Need-sub-new
-sub-new c = search needs
+below : (c : tie.After-new) → blockNo (c .new .result) < blocksOf (c .before .before .before .before .before .before .before .args .g)
+below c =
+    let k = c .before .before .before .before .before .before .before in
+    omega (arith, at c, low k, k .pre .0 .sound .blocks-from)
 
-sub-new-2 : tie.Need-sub-new-2
-sub-new-2 c = omega (arith, c .blocks2 .ensures, low c)
-
-new-requires : tie.Need-new-requires
-new-requires c κs = search needs
-
-sector-bytes-requires : tie.Need-sector-bytes-requires
-sector-bytes-requires c κs = search needs
-
-block-bytes-requires : tie.Need-block-bytes-requires
-block-bytes-requires c κs =
-    let k = c .before .before .before .before in
-    let sized = length-sector-bytes (blocksOf (k .args .g)) (sectorsOf (k .args .g)) (k .args .image .now) (k .args .s .0) (k .pre .1 .0) (k .pre .0 .sized) in
-    omega (arith, ap length (c .sector-bytes .ensures) ∙ sized, ap blockNo (c .before .new .ensures), c .before .before .blocks2 .ensures, low (c .before .before))
+entry-block-requires : tie.Need-entry-block-requires
+entry-block-requires c κs = let k = c .before in (k .pre .0, (k .pre .1 .0, low k))
 
 le16-requires : tie.Need-le16-requires
 le16-requires c κs = omega (arith, whole c)
@@ -103,33 +67,40 @@ cast-length c = search needs
 
 returns : tie.Need-returns
 returns c =
-    let l = c .before in
-    let k = l .before .before .before .before .before .before in
-    sym (found-none (k .args .g) (k .args .image .now) (k .pre .0) (k .args .s .0) (k .args .n) (k .pre .1 .0) (k .pre .1 .1) (sym (told l) ∙ c .if1 .taken))
+    let k = c .before .before .before .before in
+    sym (found-none (k .args .g) (k .args .image .now) (k .pre .0) (k .args .s .0) (k .args .n) (k .pre .1 .0) (k .pre .1 .1) (sym (told (c .before)) ∙ c .if1 .taken))
+
+blocks-requires : tie.Need-blocks-requires
+blocks-requires c κs = search needs
+
+sub-new : tie.Need-sub-new
+sub-new c = search needs
+
+sub-new-2 : tie.Need-sub-new-2
+sub-new-2 c = omega (arith, c .blocks2 .ensures, low (c .before .before .before .before .before .before))
+
+new-requires : tie.Need-new-requires
+new-requires c κs = search needs
 
 place-requires : tie.Need-place-requires
 place-requires c κs =
-    let l = c .before .before in
-    let k = l .before .before .before .before .before .before in
-    (k .pre .0 .sound, (k .pre .1 .0, omega (arith, at (l .before .before .before), low (l .before .before .before .before))))
+    let k = c .before .before .before .before .before .before .before in
+    (k .pre .0 .sound, (k .pre .1 .0, below c))
 
 plus-requires : tie.Need-plus-requires
 plus-requires c κs =
-    let l = c .before .before .before in
-    let k = l .before .before .before .before .before .before in
-    let inside : blockNo (l .before .before .before .new .result) < blocksOf (k .args .g) =
-    omega (arith, at (l .before .before .before), low (l .before .before .before .before)) in
-    omega (arith, c .place .ensures, place-small (k .args .g) (k .pre .0 .sound) (k .args .s .0) _ (k .pre .1 .0) inside)
+    let k = c .before .before .before .before .before .before .before .before in
+    omega (arith, c .place .ensures, place-small (k .args .g) (k .pre .0 .sound) (k .args .s .0) _ (k .pre .1 .0) (below (c .before)))
 
 returns-2 : tie.Need-returns-2
 returns-2 c =
-    let l = c .before .before .before .before in
-    let k = l .before .before .before .before .before .before in
+    let l = c .before .before .before .before .before .before in
+    let k = l .before .before .before in
     let g = k .args .g in
-    let place = c .plus .ensures ∙ ap (λ (n : ℕ). n + 8) (c .before .place .ensures ∙ ap (placeOf (blocksOf g) (k .args .s .0)) (at (l .before .before .before))) in
-    let one : 0 < l .le16 .result = omega (arith, c .before .before .before .if1 .left) in
+    let place = c .plus .ensures ∙ ap (λ (n : ℕ). n + 8) (c .before .place .ensures ∙ ap (placeOf (blocksOf g) (k .args .s .0)) (at (c .before .before))) in
+    let one : 0 < l .le16 .result = omega (arith, c .before .before .before .before .before .if1 .left) in
     ap₂ (λ (p len : ℕ). Value (placeAt p) len Unchecked) place (told l)
-    ∙ sym (found-small g (k .args .image .now) (k .pre .0) (k .args .s .0) (k .args .n) (k .pre .1 .0) (k .pre .1 .1) (omega (arith, told l)) (omega (arith, told l, c .before .before .if2 .taken)))
+    ∙ sym (found-small g (k .args .image .now) (k .pre .0) (k .args .s .0) (k .args .n) (k .pre .1 .0) (k .pre .1 .1) (omega (arith, told l)) (omega (arith, told l, c .before .before .before .before .if2 .taken)))
 
 le32-requires : tie.Need-le32-requires
 le32-requires c κs = omega (arith, whole (c .before .before .before))
@@ -145,16 +116,15 @@ new-requires-2 c κs = search needs
 
 place-requires-2 : tie.Need-place-requires-2
 place-requires-2 c κs =
-    let l = c .before .before .before .before .before in
-    let k = l .before .before .before .before .before .before in
+    let k = c .before .before .before .before .before .before .before .before in
     (k .pre .0 .sound, (k .pre .1 .0, omega (arith, ap blockNo (c .new2 .ensures), k .pre .0 .sound .blocks-from)))
 
 plus-requires-2 : tie.Need-plus-requires-2
 plus-requires-2 c κs =
     let l = c .before .before .before .before .before .before in
-    let k = l .before .before .before .before .before .before in
+    let k = l .before .before .before in
     let g = k .args .g in
-    let many : 8 < lengthOf (the-block l) = omega (arith, told l, c .before .before .before .before .if2 .left) in
+    let many : 8 < lengthOf (block k) = omega (arith, told l, c .before .before .before .before .if2 .left) in
     omega (
       arith,
       c .place2 .ensures,
@@ -167,29 +137,28 @@ plus-requires-2 c κs =
 returns-3 : tie.Need-returns-3
 returns-3 c =
     let l = c .before .before .before .before .before .before .before in
-    let k = l .before .before .before .before .before .before in
+    let k = l .before .before .before in
     let g = k .args .g in
-    let many : 8 < lengthOf (the-block l) = omega (arith, told l, c .before .before .before .before .before .if2 .left) in
+    let many : 8 < lengthOf (block k) = omega (arith, told l, c .before .before .before .before .before .if2 .left) in
     let place =
     c .plus2 .ensures
     ∙ ap₂ (λ (n m : ℕ). n + m) (c .before .place2 .ensures ∙ ap (placeOf (blocksOf g) (k .args .s .0)) (ap blockNo (c .before .before .new2 .ensures))) (offset (c .before .before .before .before)) in
     ap₂ (λ (p len : ℕ). Value (placeAt p) len (Crc32 (c .before .before .before .le322 .result))) place (told l)
-    ∙ ap (λ (n : ℕ). Value (placeAt (placeOf (blocksOf g) (k .args .s .0) 0 + offsetOf (the-block l))) (lengthOf (the-block l)) (Crc32 n)) (crc (c .before .before .before))
+    ∙ ap (λ (n : ℕ). Value (placeAt (placeOf (blocksOf g) (k .args .s .0) 0 + offsetOf (block k))) (lengthOf (block k)) (Crc32 n)) (crc (c .before .before .before))
     ∙ sym (found-long g (k .args .image .now) (k .pre .0) (k .args .s .0) (k .args .n) (k .pre .1 .0) (k .pre .1 .1) many)
 
 pub value-at-spec : {M : Type 1} → statement M
 value-at-spec =
     tie.close
     (tie.spec
+    entry-block-requires
+    le16-requires
+    cast-length
+    returns
     blocks-requires
     sub-new
     sub-new-2
     new-requires
-    sector-bytes-requires
-    block-bytes-requires
-    le16-requires
-    cast-length
-    returns
     place-requires
     plus-requires
     returns-2

@@ -1,4 +1,4 @@
--- `live::entry_block`: what is read is block B-3-n of sector s.
+-- `entries::entry_block`: what is read is block B-3-n of sector s.
 -- Assumes nothing.
 use mathlib.Core.Path.{_≡_, sym, ap, _∙_}
 use Prim.Native.Nat.{_-_, _<_}
@@ -8,8 +8,8 @@ use borrow.Author.Needs.{needs}
 use Rattle.rules.proofs.Format.Ground.{block-of-sector, read-block, length-sector-bytes}
 use Rattle.layout.specs.Geometry.{blocksOf, sectorsOf}
 use Rattle.layout.specs.Numbers.{blockNo, sectorNo}
-use Rattle.image.proofs.live.entry_block.Statement.{statement}
-use Rattle.image.proofs.live.entry_block.Tie as tie
+use Rattle.image.proofs.entries.entry_block.Statement.{statement}
+use Rattle.image.proofs.entries.entry_block.Tie as tie
 
 -- the block's number, which is one of the sector's
 low : (c : tie.After-new) → let k = c .before .before .before .before in

@@ -1,0 +1,67 @@
+-- An entry of a sector of an image where it lies: its block, and that the sector's summary counts it.
+-- Assumes nothing.
+use mathlib.Core.Path.{_≡_, refl, sym, ap, _∙_}
+use mathlib.Core.List.{List, []}
+use Prim.Native.Nat.{ℕ, _+_, _-_, _*_, _<_, _≤_}
+use native.Mathlib.Omega.{arith}
+use lib.ListN.{length, getD}
+use Rattle.rules.specs.Ground.{Block, blockSize, blockAt, blockBytes, placeOf, sectorOf, imageOf}
+use Rattle.rules.specs.Reading.{viewOf}
+use Rattle.rules.specs.Meaning.{viewAt}
+use Rattle.rules.proofs.Basics.Lists.{length-part}
+use Rattle.rules.proofs.Format.Ground.{sectorBytes, sector-of-image, length-sector-bytes, read-block, place-fits}
+use Rattle.rules.proofs.Blocks.Lying.{LiesAt, lies-at}
+use Rattle.layout.specs.declared.Geometry.{Geometry}
+use Rattle.layout.specs.Geometry.{blocksOf, sectorsOf, Sound, Backs}
+use Rattle.mask.specs.Marks.{maxMarks}
+use Rattle.image.specs.declared.Summary.{Summary}
+use Rattle.image.specs.Answer.{noSummary, viewsIn, Summarizes}
+use Rattle.image.specs.Search.{noEntry}
+use Rattle.image.proofs.Sectors.{views-count, view-read}
+use Rattle.image.proofs.Laws.{entries-counted}
+
+-- the block of an entry
+abbrev pub entryBlock : (g : Geometry) (bytes : List ℕ) (s n : ℕ) → Block
+entryBlock g bytes s n = blockAt (imageOf (blocksOf g) (sectorsOf g) bytes) s (blocksOf g - 3 - n)
+
+-- the block by the sector's bytes
+block-read : (g : Geometry) (bytes : List ℕ) (s n : ℕ) → s < sectorsOf g
+    → entryBlock g bytes s n ≡ getD (sectorOf (blocksOf g) (sectorBytes (blocksOf g) bytes s)) (blocksOf g - 3 - n) []
+unfolding blockAt
+block-read g bytes s n inside =
+    ap (λ (sector : List Block). getD sector (blocksOf g - 3 - n) []) (sector-of-image (blocksOf g) (sectorsOf g) bytes s inside)
+
+-- it is a whole block
+pub entry-whole : (g : Geometry) (bytes : List ℕ) (s n : ℕ) → Backs g bytes → s < sectorsOf g → n + 3 ≤ blocksOf g → length (entryBlock g bytes s n) ≡ blockSize
+unfolding blockBytes
+entry-whole g bytes s n backs inside low =
+    let B : ℕ = blocksOf g in
+    let b : ℕ = B - 3 - n in
+    let below : b < B = omega arith in
+    ap length (read-block B (sectorsOf g) bytes s b inside below)
+    ∙ length-part blockSize (placeOf B s b) bytes (place-fits B (sectorsOf g) bytes s b inside below (backs .sized))
+
+module _ (g : Geometry) (bytes : List ℕ) (backs : Backs g bytes) (s n : ℕ) (inside : s < sectorsOf g)
+    (here : n < length (viewAt (viewsIn g bytes) s .entries)) where
+  -- it lies in its block
+  pub entry-lies : LiesAt (sectorBytes (blocksOf g) bytes s) (blocksOf g - 3 - n) (entryBlock g bytes s n) (getD (viewAt (viewsIn g bytes) s .entries) n noEntry)
+  unfolding viewOf
+  entry-lies =
+      let B : ℕ = blocksOf g in
+      let part : List ℕ = sectorBytes (blocksOf g) bytes s in
+      let seen : viewAt (viewsIn g bytes) s ≡ viewOf B (sectorOf B part) = view-read g bytes s inside refl in
+      let sized : length part ≡ B * blockSize = length-sector-bytes B (sectorsOf g) bytes s inside (backs .sized) in
+      rw (block-read g bytes s n inside, seen)
+      (lies-at B _ part (backs .sound .blocks-from) sized n noEntry (rw seen at here))
+
+  pub entry-low : n + 3 ≤ blocksOf g
+  entry-low = omega (arith, entries-counted g bytes s inside (backs .sound) .few)
+
+-- ---- as many as the survey counted, and there is a mark for each
+
+module _ (g : Geometry) (bytes : List ℕ) (s : ℕ) (inside : s < sectorsOf g) where
+  pub entries-noted : {sectors : List Summary} → Summarizes (viewsIn g bytes) sectors → getD sectors s noSummary .entries ≡ length (viewAt (viewsIn g bytes) s .entries)
+  entries-noted noted = ap (λ (x : Summary). x .entries) (noted .each s (omega (arith, views-count g bytes)))
+
+  pub entries-few : Sound g → length (viewAt (viewsIn g bytes) s .entries) < maxMarks
+  entries-few sound = omega (arith, entries-counted g bytes s inside sound .few, sound .blocks-to)
