@@ -1,21 +1,26 @@
 -- What the proofs share: the crate's types and those of the rules go over into each other, and bounds.
 -- Assumes nothing.
 use mathlib.Core.Path.{_≡_, refl, sym, ap, _∙_}
-use mathlib.Core.Bool.{Bool}
-use mathlib.Core.List.{List}
+use mathlib.Core.Bool.{Bool, true, false}
+use mathlib.Core.List.{List, [], _∷_}
 use mathlib.Core.Option.{Option, none, some}
 use Prim.Native.Nat.{ℕ, _-_, _<_, _^_}
 use native.Mathlib.Omega.{arith}
 use lib.ListN.{length, take, drop}
+use types.Run.{OneOf, miss}
+use denote.Enum.Declared.{tagOf}
 use Rattle.rules.specs.Notation.{isErased}
 use Rattle.rules.specs.Look as rule
-use Rattle.rules.specs.Look.{dataBlocks}
+use Rattle.rules.specs.Look.{dataBlocks, isEntry}
 use Rattle.rules.proofs.Basics.Lists.{part-to-end}
 use Rattle.rules.proofs.Format.Look.{data-blocks-le}
+use Rattle.entry.specs.declared.Scan.{Scan}
 use Rattle.entry.specs.declared.Head.{Head}
 use Rattle.entry.specs.declared.Head.the-variants.{Done, Deletion, Value}
+use Rattle.entry.specs.declared.Verdict.the-variants as verdict
 use Rattle.entry.specs.declared.look.Form.the-variants.{Right, Wrong}
-use Rattle.entry.specs.Answer.{headOf, headAs, lengthOf, formAs}
+use Rattle.entry.specs.Answer.{headOf, headAs, lengthOf, formAs, verdictAs}
+use Rattle.entry.proofs.Verdict.{the-type}
 
 -- ---- heads and forms
 
@@ -39,6 +44,30 @@ right-form (some h) {head} e =
 pub wrong-form : (o : Option rule.Head) → formAs o ≡ Wrong → o ≡ none
 wrong-form none e = refl
 wrong-form (some h) e = let z : _≡_ {A = ℕ} 0 1 = cc in absurd (omega arith)
+
+-- ---- verdicts
+
+-- by their numbers, the verdicts that are no entry
+abbrev pub others : List ℕ
+others = 1 ∷ 2 ∷ 3 ∷ 4 ∷ 5 ∷ []
+
+pub no-entry : (before : rule.Scan) (v : rule.Verdict) → OneOf others (tagOf the-type (verdictAs before v)) → isEntry v ≡ false
+unfolding isEntry
+no-entry before (rule.entry head) told = absurd (miss others 0 tt told)
+no-entry before rule.blank told = refl
+no-entry before rule.otherCycle told = refl
+no-entry before rule.wrongCheck told = refl
+no-entry before rule.wrongForm told = refl
+no-entry before rule.overLimit told = refl
+
+pub an-entry : (before : rule.Scan) (v : rule.Verdict) {head : Head} {next : Scan} → verdictAs before v ≡ verdict.Entry head next → isEntry v ≡ true
+unfolding isEntry
+an-entry before (rule.entry h) e = refl
+an-entry before rule.blank e = let z : _≡_ {A = ℕ} 0 1 = cc in absurd (omega arith)
+an-entry before rule.otherCycle e = let z : _≡_ {A = ℕ} 0 1 = cc in absurd (omega arith)
+an-entry before rule.wrongCheck e = let z : _≡_ {A = ℕ} 0 1 = cc in absurd (omega arith)
+an-entry before rule.wrongForm e = let z : _≡_ {A = ℕ} 0 1 = cc in absurd (omega arith)
+an-entry before rule.overLimit e = let z : _≡_ {A = ℕ} 0 1 = cc in absurd (omega arith)
 
 -- ---- bounds
 

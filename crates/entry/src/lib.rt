@@ -3,7 +3,7 @@ pub mod build;
 pub mod look;
 
 // The byte of an erased block.
-const ERASED: u8 = 255;
+pub const ERASED: u8 = 255;
 
 // The longest value that lies inside its entry.
 pub const SMALL: usize = 8;

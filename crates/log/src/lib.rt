@@ -1,4 +1,10 @@
 // The write side: stores under a budget, one whole block at a time.
+pub mod blank;
+pub mod blocks;
+pub mod close;
+pub mod format;
+pub mod reopen;
+
 use layout::Block;
 use layout::Geometry;
 use layout::Sector;

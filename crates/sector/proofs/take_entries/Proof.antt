@@ -1,23 +1,23 @@
 -- `sector::take_entries`. The loop's invariant: the reading stands at block `at`. By the place of data and entries there is a
 -- block left after every entry, so a block that is none ends the loop.
 -- Assumes nothing.
-use mathlib.Core.Path.{_≡_, refl, sym, ap, _∙_, subst}
-use mathlib.Core.Bool.{false}
-use mathlib.Core.List.{List, [], _∷_}
+use mathlib.Core.Path.{_≡_, sym, ap, _∙_, subst}
+use mathlib.Core.List.{[]}
 use Prim.Native.Nat.{ℕ}
 use native.Mathlib.Omega.{arith}
 use lib.ListN.{getD}
-use types.Run.{OneOf, miss}
+use types.Run.{OneOf}
 use denote.Enum.Declared.{tagOf}
 use borrow.Author.Needs.{needs}
 use Rattle.rules.specs.Ground.{sectorOf}
 use Rattle.rules.specs.Look as rule
-use Rattle.rules.specs.Look.{after, look, isEntry}
+use Rattle.rules.specs.Look.{after, look}
 use Rattle.layout.specs.Geometry.{blocksOf}
 use Rattle.layout.specs.Numbers.{blockNo}
 use Rattle.entry.specs.declared.Verdict.{Verdict}
 use Rattle.entry.proofs.Verdict.{the-type}
 use Rattle.entry.specs.Answer.{scanOf, verdictAs}
+use Rattle.entry.proofs.Laws.{others, no-entry}
 use Rattle.sector.proofs.Answers.{BlockRead, block-read, is-entry}
 use Rattle.sector.proofs.Standing.{Standing, stand-start, stand-below, stand-left, stand-next, stand-end}
 use Rattle.sector.proofs.Laws.{stand-bounded}
@@ -29,19 +29,6 @@ Inv-loop sector g cycle blocks first scan₀ at₀ scan at = Standing (blocksOf 
 
 abbrev μ-loop : tie.MeasureT-loop
 μ-loop sector g cycle blocks first scan₀ at₀ scan at = at
-
--- by their numbers, the verdicts that are no entry
-abbrev others : List ℕ
-others = 1 ∷ 2 ∷ 3 ∷ 4 ∷ 5 ∷ []
-
-no-entry : (before : rule.Scan) (v : rule.Verdict) → OneOf others (tagOf the-type (verdictAs before v)) → isEntry v ≡ false
-unfolding isEntry
-no-entry before (rule.entry head) told = absurd (miss others 0 tt told)
-no-entry before rule.blank told = refl
-no-entry before rule.otherCycle told = refl
-no-entry before rule.wrongCheck told = refl
-no-entry before rule.wrongForm told = refl
-no-entry before rule.overLimit told = refl
 
 -- what was read is block `at`
 block-there : (c : tie.After-block-bytes Inv-loop μ-loop)
