@@ -1,15 +1,19 @@
 -- "Nothing changed": a refusal leaves the image and the buffer; and a call changes at most as many blocks as it was allowed.
 use mathlib.Core.Path.{_≡_, refl, sym, ap, _∙_}
 use mathlib.Core.List.{List, [], _∷_, map}
-use Prim.Native.Nat.{ℕ, zero, suc, _≤_}
+use mathlib.Core.Option.{some}
+use Prim.Native.Nat.{ℕ, zero, suc, _≤_, _<_}
 use native.Mathlib.Omega.{arith}
 use lib.Dec.{leb}
 use lib.ListN.{length, getD, set, length-take, length-map}
 use lib.Seq.{getD-set-other}
+use borrow.Author.Tests.{lt-ltb}
 use Rattle.rules.specs.Notation.{Each, empty, each}
 use Rattle.rules.specs.Ground.{Block, Image, Sector, blockAt, store}
+use Rattle.rules.specs.Reading.{Entry}
+use Rattle.rules.specs.Meaning.{lengthIn}
 use Rattle.rules.specs.Stores.{Store, apply, applyBytes}
-use Rattle.rules.specs.Calls.{Refusal, Due, refuse, make, Reply, found, answer, answerNumbers, made, replyNumbers, bufferAfter, leaves}
+use Rattle.rules.specs.Calls.{Refusal, shortBuffer, readEntry, Due, refuse, make, Reply, found, answer, answerNumbers, made, replyNumbers, bufferAfter, leaves}
 use Rattle.rules.proofs.Basics.Notation.{if-true, if-false, by-test}
 use Rattle.rules.proofs.Ring.Fits.{each-map}
 
@@ -36,6 +40,11 @@ pub number-buffer : (reply : Reply) (buffer : List ℕ) → (replyNumbers reply 
 unfolding replyNumbers
 number-buffer (found e) buffer not-found = absurd (not-found refl)
 number-buffer (Reply.refused r) buffer not-found = refusal-buffer r buffer
+
+-- "Checked in the order [..] 10, 9": a short buffer is told whatever the data
+pub short-first : (room : ℕ) (e : Entry) → room < lengthIn (e .head) → readEntry room (some e) ≡ Reply.refused (shortBuffer (lengthIn (e .head)))
+unfolding readEntry
+short-first room e short = rw (lt-ltb room (lengthIn (e .head)) short, if-true)
 
 -- ---- allowances
 
