@@ -5,14 +5,14 @@ use mathlib.Core.List.{List, []}
 use Prim.Native.Nat.{ℕ, _+_, _-_, _*_, _<_, _≤_}
 use native.Mathlib.Omega.{arith}
 use lib.ListN.{length, getD}
-use Rattle.rules.specs.Ground.{Block, blockSize, blockAt, blockBytes, placeOf, sectorOf, imageOf}
+use Rattle.rules.specs.Ground.{Block, blockSize, blockAt, sectorOf, imageOf}
 use Rattle.rules.specs.Reading.{viewOf}
 use Rattle.rules.specs.Meaning.{viewAt}
-use Rattle.rules.proofs.Basics.Lists.{length-part}
-use Rattle.rules.proofs.Format.Ground.{sectorBytes, sector-of-image, length-sector-bytes, read-block, place-fits}
+use Rattle.rules.proofs.Format.Ground.{sectorBytes, sector-of-image, length-sector-bytes}
 use Rattle.rules.proofs.Blocks.Lying.{LiesAt, lies-at}
 use Rattle.layout.specs.declared.Geometry.{Geometry}
 use Rattle.layout.specs.Geometry.{blocksOf, sectorsOf, Sound, Backs}
+use Rattle.layout.proofs.Laws.{block-sized}
 use Rattle.mask.specs.Marks.{maxMarks}
 use Rattle.image.specs.declared.Summary.{Summary}
 use Rattle.image.specs.Answer.{noSummary, viewsIn, Summarizes}
@@ -33,13 +33,7 @@ block-read g bytes s n inside =
 
 -- it is a whole block
 pub entry-whole : (g : Geometry) (bytes : List ℕ) (s n : ℕ) → Backs g bytes → s < sectorsOf g → n + 3 ≤ blocksOf g → length (entryBlock g bytes s n) ≡ blockSize
-unfolding blockBytes
-entry-whole g bytes s n backs inside low =
-    let B : ℕ = blocksOf g in
-    let b : ℕ = B - 3 - n in
-    let below : b < B = omega arith in
-    ap length (read-block B (sectorsOf g) bytes s b inside below)
-    ∙ length-part blockSize (placeOf B s b) bytes (place-fits B (sectorsOf g) bytes s b inside below (backs .sized))
+entry-whole g bytes s n backs inside low = block-sized g bytes s (blocksOf g - 3 - n) backs inside (omega arith)
 
 module _ (g : Geometry) (bytes : List ℕ) (backs : Backs g bytes) (s n : ℕ) (inside : s < sectorsOf g)
     (here : n < length (viewAt (viewsIn g bytes) s .entries)) where

@@ -14,8 +14,5 @@ pub fn entry_block(image: &[u8], g: Geometry, s: Sector, n: usize) -> &[u8]
     requires { ⌜ n + 3 ≤ blocksOf g ⌝ }
     ensures { λ r. ⌜ now r ≡ blockAt (imageOf (blocksOf g) (sectorsOf g) (now (image .entry))) (sectorNo s) (blocksOf g - 3 - n) ⌝ }
 {
-    layout::block_bytes(
-        layout::sector_bytes(image, g, s),
-        Block::new(g.blocks() - 3 - n),
-    )
+    layout::block_at(image, g, s, Block::new(g.blocks() - 3 - n))
 }

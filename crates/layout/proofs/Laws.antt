@@ -8,9 +8,9 @@ use native.Mathlib.Nat.{mul-le-mul}
 use native.Mathlib.Omega.{arith}
 use lib.ListN.{length}
 use Rattle.rules.specs.Notation.{if_then_else_}
-use Rattle.rules.specs.Ground.{blockSize, legalSizes, placeOf, storeBytes}
+use Rattle.rules.specs.Ground.{blockSize, legalSizes, imageOf, blockAt, placeOf, storeBytes}
 use Rattle.rules.proofs.Basics.Notation.{took-else}
-use Rattle.rules.proofs.Format.Ground.{IsLegal, legal-true, legal-false, legal-bounds, length-store-bytes}
+use Rattle.rules.proofs.Format.Ground.{IsLegal, legal-true, legal-false, legal-bounds, length-store-bytes, read-block, length-block-bytes}
 use Rattle.layout.specs.declared.Geometry.{Geometry}
 use Rattle.layout.specs.declared.Sizes.{Sizes}
 use Rattle.layout.specs.declared.Sizes.the-variants.{Legal, Illegal}
@@ -24,6 +24,13 @@ few-blocks g k s b hs hb =
 pub place-small : (g : Geometry) → Sound g → (s b : ℕ) → s < sectorsOf g → b < blocksOf g → placeOf (blocksOf g) s b < 4194304
 unfolding placeOf
 place-small g k s b hs hb = omega (arith, few-blocks g k s b hs hb)
+
+-- a block of an image is a whole block
+pub block-sized : (g : Geometry) (image : List ℕ) (s b : ℕ) → Backs g image → s < sectorsOf g → b < blocksOf g
+    → length (blockAt (imageOf (blocksOf g) (sectorsOf g) image) s b) ≡ blockSize
+block-sized g image s b k here inside =
+    ap length (read-block (blocksOf g) (sectorsOf g) image s b here inside)
+    ∙ length-block-bytes (blocksOf g) (sectorsOf g) image s b here inside (k .sized)
 
 -- ---- the answer by the facts
 

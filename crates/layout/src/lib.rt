@@ -3,7 +3,7 @@ ghost use mathlib.Core.Path.{_≡_};
 ghost use Prim.Native.Nat.{_+_, _-_, _*_, _^_, _≤_, _<_};
 ghost use lib.ListN.{length, getD, take, drop};
 ghost use Rattle.rules.specs.Notation.{numberOf};
-ghost use Rattle.rules.specs.Ground.{blockSize, keptFromValues, keptFromDeletions, placeOf, storeBytes};
+ghost use Rattle.rules.specs.Ground.{blockSize, keptFromValues, keptFromDeletions, imageOf, blockAt, placeOf, storeBytes};
 ghost use Rattle.layout.specs.Numbers.{sectorNo, sectorAt, blockNo, blockNumbered, placeNo};
 ghost use Rattle.layout.specs.Geometry.{blocksOf, sectorsOf, sizesOf, Sound, Backs};
 
@@ -180,6 +180,17 @@ pub fn block_bytes(sector: &[u8], b: Block) -> &[u8]
     let start = b.0 * Geometry::BLOCK_SIZE;
     let end = start + Geometry::BLOCK_SIZE;
     &sector[start..end]
+}
+
+// Of an image, block b of sector s.
+pub fn block_at(image: &[u8], g: Geometry, s: Sector, b: Block) -> &[u8]
+    requires { ⌜ Backs g (now image) ⌝ }
+    requires { ⌜ sectorNo s < sectorsOf g ⌝ }
+    requires { ⌜ blockNo b < blocksOf g ⌝ }
+    ensures block { λ r. ⌜ now r ≡ blockAt (imageOf (blocksOf g) (sectorsOf g) (now (image .entry))) (sectorNo s) (blockNo b) ⌝ }
+    ensures size { λ r. ⌜ length (now r) ≡ blockSize ⌝ }
+{
+    block_bytes(sector_bytes(image, g, s), b)
 }
 
 // A byte of a block, in the width in which numbers are put together.

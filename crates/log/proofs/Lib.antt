@@ -3,3 +3,7 @@ pub mod Spent
 pub mod Laws
 pub mod Reopening
 pub mod Formatting
+pub mod DataBlocks
+pub mod Appending
+pub mod Appended
+pub mod Copying

@@ -1,7 +1,9 @@
 // The write side: stores under a budget, one whole block at a time.
+pub mod append;
 pub mod blank;
 pub mod blocks;
 pub mod close;
+pub mod copy;
 pub mod format;
 pub mod reopen;
 

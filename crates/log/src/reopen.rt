@@ -15,10 +15,9 @@ ghost use Rattle.log.specs.Steps.{staleBlanks};
 use crate::Budget;
 use crate::Kind;
 use crate::blank::put_blank_if;
-use crate::blocks::block_at;
+use crate::blocks::is_entry;
 use crate::put;
 use entry::Scan;
-use entry::Verdict;
 use entry::build;
 use entry::look;
 use layout::Block;
@@ -42,7 +41,7 @@ fn has_close(image: &[u8], g: Geometry, s: Sector, cycle: u8) -> bool
     ensures { λ r. ⌜ r ≡ rule.isClose cycle (blockAt (imageOf (blocksOf g) (sectorsOf g) (now (image .entry))) (sectorNo s) (blocksOf g - 2)) ⌝ }
 {
     let at = Block::new(g.blocks() - 2);
-    look::is_close(block_at(image, g, s, at), cycle)
+    look::is_close(layout::block_at(image, g, s, at), cycle)
 }
 
 // Would block B-3 read as an entry under this cycle in an empty sector?
@@ -52,11 +51,7 @@ fn has_entry(image: &[u8], g: Geometry, s: Sector, cycle: u8) -> bool
     ensures { λ r. ⌜ r ≡ rule.isEntry (rule.look (blocksOf g) cycle rule.start (blockAt (imageOf (blocksOf g) (sectorsOf g) (now (image .entry))) (sectorNo s) (blocksOf g - 3))) ⌝ }
 {
     let at = Block::new(g.blocks() - 3);
-    let verdict = look::block(block_at(image, g, s, at), g, cycle, Scan::start());
-    let Verdict::Entry(_, _) = verdict else {
-        return false;
-    };
-    true
+    is_entry(image, g, s, at, cycle, Scan::start())
 }
 
 // Blanks the blocks that would read under this cycle, both judged before the first store.

@@ -17,3 +17,4 @@ pub mod OnBytes
 pub mod Formatted
 pub mod FormattedViews
 pub mod Lying
+pub mod Data

@@ -9,7 +9,7 @@ use native.Mathlib.Nat.{pow-suc}
 use native.Mathlib.Numerals.{add-one}
 use native.Mathlib.Omega.{arith}
 use lib.Dec.{eqb}
-use lib.ListN.{length, getD, drop, length-replicate, drop-of-length-le}
+use lib.ListN.{length, getD, take, drop, length-replicate, drop-of-length-le}
 use lib.Seq.{drop-cons}
 use borrow.Author.Tests.{eqb-true}
 use Rattle.rules.specs.Notation.{if_then_else_, when, bytesOf, numberOf, erased, isErased}
@@ -113,6 +113,13 @@ drop-erased (suc k) zero h = absurd (omega arith)
 drop-erased (suc k) (suc n) h =
     let e : n - k ≡ suc n - suc k = omega arith in
     drop-erased k n (omega arith) ∙ ap erased e
+
+-- and so are the first ones
+pub take-erased : (k n : ℕ) → k ≤ n → take k (erased n) ≡ erased k
+unfolding erased
+take-erased zero n h = refl
+take-erased (suc k) zero h = absurd (omega arith)
+take-erased (suc k) (suc n) h = ap (λ (l : List ℕ). 0xFF ∷ l) (take-erased k n (omega arith))
 
 -- by the two answers of a test
 pub by-test {ℓ} : {A : Type ℓ} (b : Bool) → (b ≡ true → A) → (b ≡ false → A) → A

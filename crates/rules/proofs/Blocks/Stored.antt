@@ -1,6 +1,6 @@
 -- The block that is stored for an entry is the one that the paper's list of kinds gives.
 use mathlib.Core.Path.{_≡_, refl, sym, ap, _∙_}
-use mathlib.Core.Bool.{true}
+use mathlib.Core.Bool.{true, false≢true}
 use mathlib.Core.List.{List, _∷_, _++_}
 use Prim.Native.Nat.{ℕ, _+_, _*_, _-_, _/_, _%_, _<_, _≤_}
 use native.Mathlib.Omega.{arith}
@@ -11,10 +11,11 @@ use Rattle.rules.specs.Notation.{erased, isErased, bytesOf, numberOf, Ea
 use Rattle.rules.specs.Ground.{Block, blockSize}
 use Rattle.rules.specs.Checksum.{crc32}
 use Rattle.rules.specs.Entry.{encode, numbers, closeBlock, doneBlock, deletionBlock, smallValueBlock, longValueBlock}
-use Rattle.rules.specs.Look.{value}
+use Rattle.rules.specs.Look.{Head, done, deletion, value}
 use Rattle.rules.specs.Reading.{Entry, isLong}
-use Rattle.rules.specs.Meaning.{lengthIn}
+use Rattle.rules.specs.Meaning.{isValue, lengthIn}
 use Rattle.rules.specs.Stores.{idIn, entryBlock, doneEntry, deletionEntry, valueEntry}
+use Rattle.rules.proofs.Terms.{HeadFits, fits-small, fits-long}
 use Rattle.rules.proofs.Basics.Notation.{if-true, if-false, is-erased}
 
 module _ (cycle dataEnd : ℕ) where
@@ -45,6 +46,21 @@ bytes-number (each {x = b} {xs = bs} small rest) =
     ap (λ (n : ℕ). n ∷ bytesOf (length bs) ((b + 256 * numberOf bs) / 256)) low
     ∙ ap (λ (n : ℕ). b ∷ bytesOf (length bs) n) high
     ∙ ap (λ (l : List ℕ). b ∷ l) (bytes-number rest)
+
+-- A value by its ID and length, and what the bytes behind them are.
+pub value-head : (h : Head) → isValue h ≡ true → h ≡ value (idIn h) (lengthIn h)
+unfolding isValue idIn lengthIn
+value-head done is = absurd (false≢true is)
+value-head (deletion id) is = absurd (false≢true is)
+value-head (value id len) is = refl
+
+pub small-fits : {id len : ℕ} {rest : List ℕ} → HeadFits (value id len) rest → len ≤ 8 → (length rest ≡ 8) × (isErased (drop len rest) ≡ true)
+small-fits (fits-small named user one few whole padded) short = (whole, padded)
+small-fits (fits-long named user many short whole) few = absurd (omega arith)
+
+pub long-fits : {id len : ℕ} {rest : List ℕ} → HeadFits (value id len) rest → 8 < len → length rest ≡ 4
+long-fits (fits-small named user one few whole padded) many = absurd (omega arith)
+long-fits (fits-long named user many short whole) long = whole
 
 -- A copy: "with data blocks and CRC-32 as they lie".
 module _ (cycle dataEnd id len : ℕ) (inline : List ℕ) (blocks : List Block) where

@@ -31,7 +31,7 @@ pub data Effect (B S : ℕ) (im : Image) (state : State) (T T′ : ℕ → Optio
   makes : (plan : Plan) (turns : ℕ) → Goes B S plan im (Stands S T) (SettledAt S T′ (worksAfter S turns state)) → Effect B S im state T T′ (make (plan im) turns)
 
 -- a value whose need is within the limit has a length of two bytes
-short-value : (B len : ℕ) → B ≤ 4096 → 1 + dataBlocks len ≤ B - keptFromValues → len < 2 ^ 16
+pub short-value : (B len : ℕ) → B ≤ 4096 → 1 + dataBlocks len ≤ B - keptFromValues → len < 2 ^ 16
 unfolding dataBlocks
 short-value B len most h =
     if-either (λ (n : ℕ). 1 + n ≤ B - keptFromValues → len < 2 ^ 16) (leb len 8)

@@ -1,25 +1,19 @@
--- `entries::entry_block`: what is read is block B-3-n of sector s.
+-- `entries::entry_block`: entry n stands in block B-3-n.
 -- Assumes nothing.
-use mathlib.Core.Path.{_≡_, sym, ap, _∙_}
-use Prim.Native.Nat.{_-_, _<_}
+use mathlib.Core.Path.{_≡_, ap, _∙_}
+use Prim.Native.Nat.{ℕ, _-_, _<_}
 use native.Mathlib.Omega.{arith}
-use lib.ListN.{length}
 use borrow.Author.Needs.{needs}
-use Rattle.rules.proofs.Format.Ground.{block-of-sector, read-block, length-sector-bytes}
+use Rattle.rules.specs.Ground.{imageOf, blockAt}
 use Rattle.layout.specs.Geometry.{blocksOf, sectorsOf}
 use Rattle.layout.specs.Numbers.{blockNo, sectorNo}
 use Rattle.image.proofs.entries.entry_block.Statement.{statement}
 use Rattle.image.proofs.entries.entry_block.Tie as tie
 
--- the block's number, which is one of the sector's
-low : (c : tie.After-new) → let k = c .before .before .before .before in
-    (blockNo (c .new .result) ≡ blocksOf (k .args .g) - 3 - k .args .n) × (blocksOf (k .args .g) - 3 - k .args .n < blocksOf (k .args .g))
-low c =
-    let k = c .before .before .before .before in
-    (ap blockNo (c .new .ensures) ∙ rw (c .before .blocks2 .ensures), omega (arith, k .pre .0 .sound .blocks-from))
-
-sector-bytes-requires : tie.Need-sector-bytes-requires
-sector-bytes-requires c κs = search needs
+-- the block's number
+at : (c : tie.After-new) → let k = c .before .before .before in
+    blockNo (c .new .result) ≡ blocksOf (k .args .g) - 3 - k .args .n
+at c = ap blockNo (c .new .ensures) ∙ ap (λ (b : ℕ). b - 3 - c .before .before .before .args .n) (c .before .blocks2 .ensures)
 
 blocks-requires : tie.Need-blocks-requires
 blocks-requires c κs = search needs
@@ -33,30 +27,16 @@ sub-new-2 c = search needs
 new-requires : tie.Need-new-requires
 new-requires c κs = search needs
 
-block-bytes-requires : tie.Need-block-bytes-requires
-block-bytes-requires c κs =
-    let k = c .before .before .before .before in
-    let sized =
-    ap length (c .before .before .sector-bytes .ensures)
-    ∙ length-sector-bytes (blocksOf (k .args .g)) (sectorsOf (k .args .g)) (k .args .image .now) (sectorNo (k .args .s)) (k .pre .1 .0) (k .pre .0 .sized) in
-    omega (arith, sized, low c)
+block-at-requires : tie.Need-block-at-requires
+block-at-requires c κs =
+    let k = c .before .before .before in
+    (k .pre .0, (k .pre .1 .0, omega (arith, at c, k .pre .0 .sound .blocks-from)))
 
 returns : tie.Need-returns
 returns c =
-    let k = c .before .before .before .before .before in
-    let p = low (c .before) in
-    (rw (p .0, c .before .before .before .sector-bytes .ensures) at (c .block-bytes .ensures))
-    ∙ block-of-sector (blocksOf (k .args .g)) (k .args .image .now) (sectorNo (k .args .s)) _ (p .1)
-    ∙ sym (read-block (blocksOf (k .args .g)) (sectorsOf (k .args .g)) (k .args .image .now) (sectorNo (k .args .s)) _ (k .pre .1 .0) (p .1))
+    let k = c .before .before .before .before in
+    c .block-at .ensures .0 ∙ ap (blockAt (imageOf (blocksOf (k .args .g)) (sectorsOf (k .args .g)) (k .args .image .now)) (sectorNo (k .args .s))) (at (c .before))
 
 pub entry-block-spec : {M : Type 1} → statement M
 entry-block-spec =
-    tie.close
-    (tie.spec
-    sector-bytes-requires
-    blocks-requires
-    sub-new
-    sub-new-2
-    new-requires
-    block-bytes-requires
-    returns)
+    tie.close (tie.spec blocks-requires sub-new sub-new-2 new-requires block-at-requires returns)

@@ -1,4 +1,4 @@
--- `blocks::block_at` reads the bytes of that block of the image.
+-- `layout::block_at` reads the bytes of that block of the image.
 -- Assumes nothing.
 use mathlib.Core.Path.{_≡_, sym, ap, _∙_}
 use Prim.Native.Nat.{ℕ}
@@ -7,10 +7,10 @@ use lib.ListN.{length}
 use borrow.Author.Needs.{needs}
 use Rattle.rules.specs.Ground.{blockBytes}
 use Rattle.rules.proofs.Format.Ground.{length-sector-bytes, block-of-sector, read-block, length-block-bytes}
 use Rattle.layout.specs.Numbers.{sectorNo, blockNo}
 use Rattle.layout.specs.Geometry.{blocksOf, sectorsOf}
-use Rattle.log.proofs.blocks.block_at.Statement.{statement}
-use Rattle.log.proofs.blocks.block_at.Tie as tie
+use Rattle.layout.proofs.block_at.Statement.{statement}
+use Rattle.layout.proofs.block_at.Tie as tie
 
 -- what was read are the bytes of that block
 read : (c : tie.After-block-bytes)
