@@ -1,12 +1,22 @@
 -- The crate's answers beside those of the rules: `..Of` reads one as the other, `..As` gives the answer for it.
+use mathlib.Core.Path.{_≡_}
+use mathlib.Core.List.{List}
 use mathlib.Core.Option.{Option, none, some}
+use Prim.Native.Nat.{ℕ, _-_}
+use Rattle.rules.specs.Notation.{if_then_else_}
 use Rattle.rules.specs.Meaning.{State, atRest, notReopened, midTurn, lengthIn}
 use Rattle.rules.specs.Calls as rule
 use Rattle.layout.specs.Numbers.{sectorAt}
+use Rattle.log.specs.declared.Budget.{Budget}
+use Rattle.log.specs.declared.Last.the-variants as last
+use Rattle.log.specs.Budget.{lastOf}
 use Rattle.store.specs.declared.Refusal.{Refusal}
 use Rattle.store.specs.declared.Refusal.the-variants as refusal
 use Rattle.store.specs.declared.Reply.{Reply}
 use Rattle.store.specs.declared.Reply.the-variants as reply
+use Rattle.store.specs.declared.Answer.{Answer}
+use Rattle.store.specs.declared.Answer.the-variants as answer
+use Rattle.store.specs.declared.Outcome.{Outcome}
 use Rattle.store.specs.declared.Open.{Open}
 use Rattle.store.specs.declared.Open.the-variants as opened
 
@@ -42,6 +52,27 @@ replyAs (rule.refused r) = reply.Refused (refusalAs r)
 unfoldable pub numbersOf : Reply → rule.Numbers
 numbersOf (reply.Value len) = record { number = 0; stores = 0; turns = 0; length = len }
 numbersOf (reply.Refused r) = rule.replyNumbers (rule.refused (refusalOf r))
+
+-- The same for the other calls: stores and turns.
+unfoldable pub answerNumbersOf : Answer → rule.Numbers
+answerNumbersOf (answer.Done stores turns) = record { number = 0; stores = stores; turns = turns; length = 0 }
+answerNumbersOf (answer.Cut stores) = record { number = 11; stores = stores; turns = 0; length = 0 }
+answerNumbersOf (answer.Refused r) = rule.answerNumbers (rule.refused (refusalOf r))
+
+-- What a call that stores leaves, by what is due: the paper's numbers, the image, and the last of the stores made.
+pub record Leaves (size : ℕ) (due : rule.Due) (allowance : ℕ) (before after : List ℕ) (r : Outcome) : Type 0 where
+  pub numbers : answerNumbersOf (r .answer) ≡ rule.answerNumbers (rule.answer due allowance)
+  pub image : after ≡ rule.leaves size due allowance before
+  pub last : r .last ≡ lastOf last.Nothing (rule.made due allowance)
+
+-- the outcome of a refusal, and by what is left of an allowance
+unfoldable pub refusedAs : Refusal → Outcome
+refusedAs r = record { answer = answer.Refused r; last = last.Nothing }
+
+unfoldable pub outcomeAs : (allowance : ℕ) → Budget → (turns : ℕ) → Outcome
+outcomeAs allowance budget turns =
+    if budget .cut then record { answer = answer.Cut allowance; last = budget .last }
+    else record { answer = answer.Done (allowance - budget .left) turns; last = budget .last }
 
 -- "2 no store: none of the three states"; "3 unfinished: a store but not at rest"
 unfoldable pub openAs : Option State → Open

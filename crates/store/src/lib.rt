@@ -1,5 +1,6 @@
 // The calls over a lent image. The image is the only state: each call works out afresh what it means.
 mod numbers;
+mod outcomes;
 mod value;
 
 ghost use mathlib.Core.Path.{_≡_};
@@ -11,7 +12,7 @@ ghost use Rattle.rules.specs.Calls as rule;
 ghost use Rattle.layout.specs.Numbers.{sectorNo};
 ghost use Rattle.layout.specs.Geometry.{sectorsOf, Backs};
 ghost use Rattle.image.specs.Answer.{statusOf, viewsIn, Summarizes};
-ghost use Rattle.store.specs.Answer.{openAs, replyAs, numbersOf};
+ghost use Rattle.store.specs.Answer.{openAs, replyAs, numbersOf, Leaves};
 use image::Status;
 use image::Summary;
 use image::ring;
@@ -20,6 +21,8 @@ use image::search::Found;
 use layout::Geometry;
 use layout::Sector;
 use layout::Sizes;
+use log::Budget;
+use log::Last;
 
 // The refusals, 1 to 10 in the order of their numbers. A short buffer tells the length that it would take.
 pub enum Refusal {
@@ -39,6 +42,20 @@ pub enum Refusal {
 pub enum Reply {
     Value(usize),
     Refused(Refusal),
+}
+
+// What a format, mount, write or delete answers: all stores made, with their number and the turns; cut at the allowance, with
+// the stores made; or a refusal.
+pub enum Answer {
+    Done(u32, u32),
+    Cut(u32),
+    Refused(Refusal),
+}
+
+// The answer, and the last store made, which gives the driver its trace.
+pub struct Outcome {
+    pub answer: Answer,
+    pub last: Last,
 }
 
 // The open sector of an image at rest, or the refusal of one that is not.
@@ -88,6 +105,17 @@ fn read_at_rest(
     }
     value::copy(bytes, buffer);
     Reply::Value(length)
+}
+
+// Makes an empty store of whatever bytes the image holds.
+pub fn format(image: &mut [u8], sector_size: usize, count: usize, allowance: u32) -> Outcome
+    ensures { λ r. ⌜ Leaves «sector_size» (rule.formatDue «sector_size» count (now (image .entry))) allowance (now (image .entry)) (now (image .exit)) r ⌝ }
+{
+    let Sizes::Legal(g) = Geometry::new(sector_size, count, image.len()) else {
+        return outcomes::refused(Refusal::Geometry);
+    };
+    let budget = log::format::format(image, g, Budget::new(allowance));
+    outcomes::of(allowance, budget, 0)
 }
 
 // Copies the value of an ID into the first bytes of the buffer, and leaves the rest of it. A refused read leaves all of it.

@@ -1,7 +1,8 @@
 // The paper's numbers of the answers.
 ghost use mathlib.Core.Path.{_≡_};
 ghost use Rattle.rules.specs.Calls as rule;
-ghost use Rattle.store.specs.Answer.{refusalOf, numbersOf};
+ghost use Rattle.store.specs.Answer.{refusalOf, numbersOf, answerNumbersOf};
+use crate::Answer;
 use crate::Refusal;
 use crate::Reply;
 
@@ -50,6 +51,38 @@ impl Reply {
         match self {
             Reply::Value(length) => length,
             Reply::Refused(refusal) => refusal.length(),
+        }
+    }
+}
+
+impl Answer {
+    pub fn number(self) -> u32
+        ensures { λ r. ⌜ r ≡ answerNumbersOf self .number ⌝ }
+    {
+        match self {
+            Answer::Done(_, _) => 0,
+            Answer::Cut(_) => 11,
+            Answer::Refused(refusal) => refusal.number(),
+        }
+    }
+
+    pub fn stores(self) -> u32
+        ensures { λ r. ⌜ r ≡ answerNumbersOf self .stores ⌝ }
+    {
+        match self {
+            Answer::Done(stores, _) => stores,
+            Answer::Cut(stores) => stores,
+            Answer::Refused(_) => 0,
+        }
+    }
+
+    pub fn turns(self) -> u32
+        ensures { λ r. ⌜ r ≡ answerNumbersOf self .turns ⌝ }
+    {
+        match self {
+            Answer::Done(_, turns) => turns,
+            Answer::Cut(_) => 0,
+            Answer::Refused(_) => 0,
         }
     }
 }

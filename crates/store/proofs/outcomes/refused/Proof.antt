@@ -1,0 +1,13 @@
+-- `outcomes::refused`, as it is defined.
+-- Assumes nothing.
+use mathlib.Core.Path.{refl}
+use Rattle.store.specs.Answer.{refusedAs}
+use Rattle.store.proofs.outcomes.refused.Statement.{statement}
+use Rattle.store.proofs.outcomes.refused.Tie as tie
+
+returns : tie.Need-returns
+unfolding refusedAs
+returns c = refl
+
+pub refused-spec : {M : Type 1} → statement M
+refused-spec = tie.close (tie.spec returns)
