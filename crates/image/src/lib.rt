@@ -3,6 +3,7 @@ pub mod entries;
 pub mod live;
 pub mod ring;
 pub mod search;
+pub mod value;
 
 use entry::Scan;
 use layout::Geometry;

@@ -1,10 +1,8 @@
 // The calls over a lent image. The image is the only state: each call works out afresh what it means.
 mod numbers;
-mod outcomes;
-mod value;
 
 ghost use mathlib.Core.Path.{_≡_};
-ghost use Prim.Native.Nat.{_<_};
+ghost use Prim.Native.Nat.{_<_, _≤_};
 ghost use lib.ListN.{length};
 ghost use Rattle.rules.specs.Ground.{reservedId};
 ghost use Rattle.rules.specs.Meaning.{atRest, history, lookup};
@@ -12,12 +10,13 @@ ghost use Rattle.rules.specs.Calls as rule;
 ghost use Rattle.layout.specs.Numbers.{sectorNo};
 ghost use Rattle.layout.specs.Geometry.{sectorsOf, Backs};
 ghost use Rattle.image.specs.Answer.{statusOf, viewsIn, Summarizes};
-ghost use Rattle.store.specs.Answer.{openAs, replyAs, numbersOf, Leaves};
+ghost use Rattle.store.specs.Answer.{openAs, replyAs, numbersOf, refusedAs, outcomeAs, Leaves};
 use image::Status;
 use image::Summary;
 use image::ring;
 use image::search;
 use image::search::Found;
+use image::value;
 use layout::Geometry;
 use layout::Sector;
 use layout::Sizes;
@@ -107,15 +106,43 @@ fn read_at_rest(
     Reply::Value(length)
 }
 
+// Nothing was stored.
+fn refused(refusal: Refusal) -> Outcome
+    ensures { λ r. ⌜ r ≡ refusedAs refusal ⌝ }
+{
+    Outcome {
+        answer: Answer::Refused(refusal),
+        last: Last::Nothing,
+    }
+}
+
+// By what is left of the allowance, and the turns of a call that was not cut.
+fn ended(allowance: u32, budget: Budget, turns: u32) -> Outcome
+    requires { ⌜ budget .left ≤ allowance ⌝ }
+    ensures { λ r. ⌜ r ≡ outcomeAs allowance budget turns ⌝ }
+{
+    let last = budget.last;
+    if budget.cut {
+        return Outcome {
+            answer: Answer::Cut(allowance),
+            last: last,
+        };
+    }
+    Outcome {
+        answer: Answer::Done(allowance - budget.left, turns),
+        last: last,
+    }
+}
+
 // Makes an empty store of whatever bytes the image holds.
 pub fn format(image: &mut [u8], sector_size: usize, count: usize, allowance: u32) -> Outcome
     ensures { λ r. ⌜ Leaves «sector_size» (rule.formatDue «sector_size» count (now (image .entry))) allowance (now (image .entry)) (now (image .exit)) r ⌝ }
 {
     let Sizes::Legal(g) = Geometry::new(sector_size, count, image.len()) else {
-        return outcomes::refused(Refusal::Geometry);
+        return refused(Refusal::Geometry);
     };
     let budget = log::format::format(image, g, Budget::new(allowance));
-    outcomes::of(allowance, budget, 0)
+    ended(allowance, budget, 0)
 }
 
 // Copies the value of an ID into the first bytes of the buffer, and leaves the rest of it. A refused read leaves all of it.

@@ -7,7 +7,7 @@ use crate::Refusal;
 use crate::Reply;
 
 impl Refusal {
-    pub fn number(self) -> u32
+    fn number(self) -> u32
         ensures { λ r. ⌜ r ≡ rule.refusalNumber (refusalOf self) ⌝ }
     {
         match self {
@@ -25,7 +25,7 @@ impl Refusal {
     }
 
     // The length that goes with it: a short buffer's; otherwise 0.
-    pub fn length(self) -> usize
+    fn length(self) -> usize
         ensures { λ r. ⌜ r ≡ rule.lengthTold (refusalOf self) ⌝ }
     {
         match self {

@@ -56,8 +56,8 @@ format-requires c κs =
     let a = l .before .before .before .before .before .args in
     (legal-backs (a .sector-size) (a .count) _ (l .before .g .given .0 .0) (legal l) (a .image .now) refl, subst Consistent (sym (c .new2 .ensures)) (new-consistent (a .allowance)))
 
-of-requires : tie.Need-of-requires
-of-requires c κs = left-within (rw (c .before .before .before .new2 .ensures) at (c .before .before .format .ensures))
+ended-requires : tie.Need-ended-requires
+ended-requires c κs = left-within (rw (c .before .before .before .new2 .ensures) at (c .before .before .format .ensures))
 
 same-length : tie.Need-same-length
 same-length c = search needs
@@ -72,7 +72,7 @@ returns-2 c =
     let did = rw (f .before .new2 .ensures) at (f .format .ensures) in
     let due = at-legal (a .sector-size) (a .count) (a .image .now) rule.refuse rule.formatOn g (legal l) in
     let same = from-sizes (a .sector-size) (a .count) _ g (legal l) .blocks in
-    subst (Leaves _ _ _ _ _) (sym (c .of .ensures)) (leaves-made did (a .sector-size) 0 same due)
+    subst (Leaves _ _ _ _ _) (sym (c .ended .ensures)) (leaves-made did (a .sector-size) 0 same due)
 
 pub format-spec : {M : Type 1} → statement M
 format-spec =
@@ -85,6 +85,6 @@ format-spec =
     returns
     new-requires-2
     format-requires
-    of-requires
+    ended-requires
     same-length
     returns-2)

@@ -1,10 +1,10 @@
--- `images::put`: the block lies within the image.
+-- `put`: the block lies within the image.
 -- Assumes nothing.
 use Prim.Native.Nat.{_-_, _≤_}
 use native.Mathlib.Omega.{arith}
 use borrow.Author.Needs.{needs}
-use Rattle.trials.proofs.images.put.Statement.{statement}
-use Rattle.trials.proofs.images.put.Tie as tie
+use Rattle.trials.proofs.put.Statement.{statement}
+use Rattle.trials.proofs.put.Tie as tie
 
 abbrev Inv-loop : tie.InvT-loop
 Inv-loop s b block stored₀ start i₀ stored i = i ≤ 16

@@ -1,9 +1,9 @@
--- `outcomes::refused`, as it is defined.
+-- `refused`, as it is defined.
 -- Assumes nothing.
 use mathlib.Core.Path.{refl}
 use Rattle.store.specs.Answer.{refusedAs}
-use Rattle.store.proofs.outcomes.refused.Statement.{statement}
-use Rattle.store.proofs.outcomes.refused.Tie as tie
+use Rattle.store.proofs.refused.Statement.{statement}
+use Rattle.store.proofs.refused.Tie as tie
 
 returns : tie.Need-returns
 unfolding refusedAs

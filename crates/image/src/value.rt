@@ -3,8 +3,8 @@ ghost use mathlib.Core.Path.{_≡_};
 ghost use mathlib.Core.List.{_++_};
 ghost use Prim.Native.Nat.{_≤_};
 ghost use lib.ListN.{length, drop};
 ghost use Rattle.image.specs.Value as rule;
-use image::search::Check;
+use crate::search::Check;
 
 // Is the CRC-32 that goes with the bytes, if there is one, right?
 pub fn passes(check: Check, bytes: &[u8]) -> bool

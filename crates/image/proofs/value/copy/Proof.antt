@@ -8,8 +8,8 @@ use native.Mathlib.Numerals.{add-one}
 use native.Mathlib.Omega.{arith}
 use lib.ListN.{length, getD, set, drop}
 use lib.Seq.{paste, paste-zero, paste-suc, length-paste, take-length}
-use Rattle.store.proofs.value.copy.Statement.{statement}
-use Rattle.store.proofs.value.copy.Tie as tie
+use Rattle.image.proofs.value.copy.Statement.{statement}
+use Rattle.image.proofs.value.copy.Tie as tie
 
 abbrev Inv-loop : tie.InvT-loop
 Inv-loop bytes buffer₀ i₀ buffer i = (i ≤ length bytes) × (buffer ≡ paste buffer₀ 0 bytes i)

@@ -1,11 +1,11 @@
--- `printing::print_bytes`: each byte is one of those lent.
+-- `print_bytes`: each byte is one of those lent.
 -- Assumes nothing.
 use Prim.Native.Nat.{_-_, _≤_}
 use lib.ListN.{length}
 use native.Mathlib.Omega.{arith}
 use borrow.Author.Needs.{needs}
-use Rattle.trials.proofs.printing.print_bytes.Statement.{statement}
-use Rattle.trials.proofs.printing.print_bytes.Tie as tie
+use Rattle.trials.proofs.print_bytes.Statement.{statement}
+use Rattle.trials.proofs.print_bytes.Tie as tie
 
 abbrev Inv-loop : tie.InvT-loop
 Inv-loop bytes i₀ i = i ≤ length bytes

@@ -4,10 +4,10 @@ use mathlib.Core.Path.{_≡_, sym, ap, _∙_}
 use Prim.Native.Nat.{ℕ}
 use lib.Dec.{eqb}
 use borrow.Author.Needs.{needs}
 use Rattle.image.specs.declared.search.Check.{Check}
 use Rattle.image.specs.Value.{passes}
-use Rattle.store.proofs.value.passes.Statement.{statement}
-use Rattle.store.proofs.value.passes.Tie as tie
+use Rattle.image.proofs.value.passes.Statement.{statement}
+use Rattle.image.proofs.value.passes.Tie as tie
 
 enum-told : tie.Need-enum-told
 enum-told c = search needs

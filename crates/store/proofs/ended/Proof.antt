@@ -1,11 +1,11 @@
--- `outcomes::of`, as it is defined: by whether the budget was cut.
+-- `ended`, as it is defined: by whether the budget was cut.
 -- Assumes nothing.
 use mathlib.Core.Path.{_≡_}
 use borrow.Author.Needs.{needs}
 use Rattle.rules.proofs.Basics.Notation.{if-true, if-false}
 use Rattle.store.specs.Answer.{outcomeAs}
-use Rattle.store.proofs.outcomes.of.Statement.{statement}
-use Rattle.store.proofs.outcomes.of.Tie as tie
+use Rattle.store.proofs.ended.Statement.{statement}
+use Rattle.store.proofs.ended.Tie as tie
 
 returns : tie.Need-returns
 unfolding outcomeAs
@@ -18,5 +18,5 @@ returns-2 : tie.Need-returns-2
 unfolding outcomeAs
 returns-2 c = rw (c .before .if1 .left, if-false)
 
-pub of-spec : {M : Type 1} → statement M
-of-spec = tie.close (tie.spec returns sub-t7 returns-2)
+pub ended-spec : {M : Type 1} → statement M
+ended-spec = tie.close (tie.spec returns sub-t7 returns-2)

@@ -1,11 +1,11 @@
--- `reading::read_of`: the buffer is as long as it is said to be.
+-- `read_of`: the buffer is as long as it is said to be.
 -- Assumes nothing.
 use mathlib.Core.Path.{sym}
 use lib.Seq.{length-take-le}
 use native.Mathlib.Omega.{arith}
 use borrow.Author.Needs.{needs}
-use Rattle.trials.proofs.reading.read_of.Statement.{statement}
-use Rattle.trials.proofs.reading.read_of.Tie as tie
+use Rattle.trials.proofs.read_of.Statement.{statement}
+use Rattle.trials.proofs.read_of.Tie as tie
 
 slice-aggregate-read : tie.Need-slice-aggregate-read
 slice-aggregate-read c = search needs
