@@ -3,3 +3,4 @@ pub mod Answer
 pub mod Search
 pub mod Value
 pub mod Live
+pub mod Fit

@@ -1,5 +1,7 @@
-// What an image means: its sectors, the state that they make together, the newest entry of an ID, and the live values.
+// What an image means: its sectors, the state that they make together, the newest entry of an ID, the live values, and the
+// room for one more entry.
 pub mod entries;
+pub mod fit;
 pub mod live;
 pub mod ring;
 pub mod search;

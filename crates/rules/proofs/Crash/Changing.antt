@@ -227,6 +227,16 @@ module _ (B S : ℕ) (big : 8 ≤ B) (most : B ≤ 4096) (two : 2 ≤ S) (T : �
           concat-snoc xs (x ++ (e ∷ [])) ∙ sym (append-assoc (concat xs) x (e ∷ []))
           ∙ ap (λ (es : List Entry). es ++ (e ∷ [])) (sym (concat-snoc xs x) ∙ ap concat (sym (rests-newest S two r)))
 
+  -- The least turns leave room in the sector that is the working one after them.
+  pub turns-room : (need limit t : ℕ) (im : Image) {w : ℕ} {sectors : List (List Entry)}
+      → ((id : ℕ) → lookup id (concat sectors) ≡ T id) → IsImage B S im → w < S → Rests S w sectors (viewsOf B im)
+      → leastTurns need limit w (viewsOf B im) ≡ some t
+      → afterAll start (viewAt (viewsOf B (apply (turns B S t w im) im)) (moved S t w) .entries) .needs + need ≤ limit
+  turns-room need limit t im {w} matches ok here r least =
+      let after : List View = viewsOf B (apply (turns B S t w im) im) in
+      let found : IsLeast need limit w (viewsOf B im) t = turns-least need limit w (viewsOf B im) least in
+      omega (arith, found .fits, needs-all (viewAt after (moved S t w) .entries), open-needs S two t here r (turns-go t im matches ok here r .whole) (found .within))
+
   -- The least turns, then the append.
   pub change-goes : (e : Entry) (limit t : ℕ) (im : Image) {w : ℕ} {sectors : List (List Entry)}
       → ((scan : Scan) → scan .needs + needOf (e .head) ≤ limit → isWithin B scan (e .head) ≡ true)
@@ -237,15 +247,10 @@ module _ (B S : ℕ) (big : 8 ≤ B) (most : B ≤ 4096) (two : 2 ≤ S) (T : �
   change-goes e limit t im {w} {sectors} admits matches ok here r proper least =
       goes-then B S im (turns B S t w) (append B (moved S t w) e) turning
       (add-goes e im₁ (times-matches t sectors matches) (image-after B S big most two T im ok turning) (moved-below t w here) (turning .whole) proper
-      (admits (afterAll start (viewAt (viewsOf B im₁) (moved S t w) .entries)) room))
+      (admits (afterAll start (viewAt (viewsOf B im₁) (moved S t w) .entries)) (turns-room (needOf (e .head)) limit t im matches ok here r least)))
     where
       turning : Goes B S (turns B S t w) im (Stands S T) (Rests S (moved S t w) (times t turned sectors))
       turning = turns-go t im matches ok here r
 
       im₁ : Image
       im₁ = apply (turns B S t w im) im
-
-      room : afterAll start (viewAt (viewsOf B im₁) (moved S t w) .entries) .needs + needOf (e .head) ≤ limit
-      room =
-          let found : IsLeast (needOf (e .head)) limit w (viewsOf B im) t = turns-least (needOf (e .head)) limit w (viewsOf B im) least in
-          omega (arith, found .fits, needs-all (viewAt (viewsOf B im₁) (moved S t w) .entries), open-needs S two t here r (turning .whole) (found .within))

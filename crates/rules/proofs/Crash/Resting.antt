@@ -55,11 +55,11 @@ value-need id bytes h = h
 
 -- which of the two a change is
 module _ (B S w limit : ℕ) (e : Entry) (im : Image) where
-  change-none : leastTurns (needOf (e .head)) limit w (viewsOf B im) ≡ none → changeOn B S w limit e im ≡ refuse noRoom
+  pub change-none : leastTurns (needOf (e .head)) limit w (viewsOf B im) ≡ none → changeOn B S w limit e im ≡ refuse noRoom
   unfolding changeOn
   change-none found = ap (λ (o : Option ℕ). elim o [ none ↦ refuse noRoom | some t ↦ make (change B S t w e im) t ]) found
 
-  change-some : (t : ℕ) → leastTurns (needOf (e .head)) limit w (viewsOf B im) ≡ some t → changeOn B S w limit e im ≡ make (change B S t w e im) t
+  pub change-some : (t : ℕ) → leastTurns (needOf (e .head)) limit w (viewsOf B im) ≡ some t → changeOn B S w limit e im ≡ make (change B S t w e im) t
   unfolding changeOn
   change-some t found = ap (λ (o : Option ℕ). elim o [ none ↦ refuse noRoom | some t ↦ make (change B S t w e im) t ]) found
 

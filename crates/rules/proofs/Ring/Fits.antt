@@ -1,19 +1,21 @@
 -- Laws of the least number of turns: there is none exactly where nothing fits, else it is the least that fits.
 use mathlib.Core.Path.{_≡_, refl, sym, ap, _∙_}
 use mathlib.Core.List.{List, [], _∷_, map}
-use mathlib.Core.Option.{none, some, Option·some-injective, Option·none-ne-some}
+use mathlib.Core.Option.{Option, none, some, Option·some-injective, Option·none-ne-some}
 use Prim.Native.Nat.{ℕ, zero, suc, _+_, _-_, _<_, _≤_}
 use native.Mathlib.Nat.{sub-zero}
 use native.Mathlib.Omega.{arith}
 use lib.Dec.{leb}
-use lib.ListN.{length, length-map, getD}
+use lib.ListN.{length, length-map, getD, List·getD-map}
 use borrow.Author.Tests.{leb-true, leb-false, le-leb, lt-leb}
 use Rattle.rules.specs.Notation.{Each, empty, each}
 use Rattle.rules.specs.Reading.{Entry, View}
-use Rattle.rules.specs.Meaning.{atRest, viewAt, counting, liveEach, needsOf}
+use Rattle.rules.specs.Meaning.{atRest, viewAt, next, ringSector, counting, liveEach, liveIn, needsOf}
 use Rattle.rules.specs.Stores.{firstFit, leastTurns}
 use Rattle.rules.proofs.Basics.Notation.{if-true, if-false, by-test}
+use Rattle.rules.proofs.Ring.Order.{next-lt, length-allBut}
 use Rattle.rules.proofs.Ring.LiveBySector.{length-liveEach}
+use Rattle.rules.proofs.Ring.Newest.{ring-live}
 
 -- k is the least place, counted from t, whose needs leave room.
 pub record IsFirstFit (need limit t : ℕ) (ns : List ℕ) (k : ℕ) : Type 0 where
@@ -105,6 +107,19 @@ module _ {ℓ κ ι} {A : Type ℓ} {B : Type κ} (P : B → Type ι) (f : A →
 abbrev pub openNeeds : (w : ℕ) → List View → List ℕ
 openNeeds w views = needsOf (viewAt views w .entries) ∷ map needsOf (liveEach (counting (atRest w) views))
 
+-- There is one for each number of turns from 0 to S-1: after t turns the live needs of the sector at place t-1 behind the spare.
+module _ (w : ℕ) (views : List View) (here : w < length views) where
+  pub length-counting : length (counting (atRest w) views) ≡ length views - 1
+  unfolding counting
+  length-counting = length-allBut (next (length views) w) views (next-lt (length views) w here)
+
+  pub needs-after : (k : ℕ) → k < length views - 1
+      → getD (openNeeds w views) (suc k) 0 ≡ needsOf (liveIn (next (length views) w) (ringSector (length views) (next (length views) w) k) views)
+  unfolding counting needsOf
+  needs-after k h =
+      List·getD-map needsOf (liveEach (counting (atRest w) views)) k []
+      ∙ ap needsOf (ring-live (next (length views) w) views (next-lt (length views) w here) k h)
+
 -- "no t from 0 to S-1 fits"
 pub record IsNoRoom (need limit w : ℕ) (views : List View) : Type 0 where
   pub working : limit < needsOf (viewAt views w .entries) + need
@@ -143,6 +158,14 @@ module _ (need limit w : ℕ) (views : List View) where
   least-turns k l =
       first-fits need limit 0 (openNeeds w views) k
       (record { from = omega arith; within = omega (arith, counted, l .within); fits = rw sub-zero (l .fits); least = λ t b. l .least t (omega arith) })
+
+  -- there is none where no number of turns fits; else
+  pub no-turns : ((t : ℕ) → t ≤ length (counting (atRest w) views) → limit < getD (openNeeds w views) t 0 + need) → leastTurns need limit w views ≡ none
+  no-turns above = go (leastTurns need limit w views) refl
+    where
+      go : (o : Option ℕ) → leastTurns need limit w views ≡ o → leastTurns need limit w views ≡ none
+      go none e = e
+      go (some k) e = let l : IsLeast need limit w views k = turns-least e in absurd (omega (arith, above k (l .within), l .fits))
 
   -- it is at most any number of turns that fits,
   pub some-turns : (t : ℕ) → t ≤ length (counting (atRest w) views) → getD (openNeeds w views) t 0 + need ≤ limit

@@ -81,7 +81,7 @@ module _ (S u : ℕ) (spare : u < S) where
   ring-lt k h = ⊎-elim (λ a. omega arith) (λ a. omega arith) (ring-cases S u k)
 
   -- one place up is the next sector, and one place down the one before
-  ring-up : (k : ℕ) → suc k < S → next S (ringSector S u k) ≡ ringSector S u (suc k)
+  pub ring-up : (k : ℕ) → suc k < S → next S (ringSector S u k) ≡ ringSector S u (suc k)
   ring-up k h =
       ⊎-elim
       (λ a. ⊎-elim (λ b. omega (arith, ring-high S u (suc k) (omega arith))) (λ b. omega (arith, ring-low S u (suc k) (omega arith))) (next-cases S (ringSector S u k)))
@@ -90,6 +90,10 @@ module _ (S u : ℕ) (spare : u < S) where
 
   pub ring-down : (k : ℕ) → suc k < S → ringSector S u k ≡ previous S (ringSector S u (suc k))
   ring-down k h = sym (previous-next S (ringSector S u k) (ring-lt k (omega arith))) ∙ ap (previous S) (ring-up k h)
+
+  -- u itself has none of the places that count
+  pub ring-other : (k : ℕ) → suc k < S → ringSector S u k ≡ u → ⊥
+  ring-other k h same = ⊎-elim (λ a. omega arith) (λ a. omega arith) (ring-cases S u k)
 
   -- no sector has two places
   pub ring-apart : (j k : ℕ) → j < k → k < S → ringSector S u k ≡ ringSector S u j → ⊥
