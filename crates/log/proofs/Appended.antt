@@ -32,7 +32,7 @@ use Rattle.log.proofs.Laws.{did-cut-as, did-image, did-whole}
 use Rattle.log.proofs.Appending.{blocksIn}
 
 -- one entry more, by the summary
-with-entry : (e : Entry) (v : View) → withEntry (summaryAs v) (e .head) ≡ summaryAs (addedView e v)
+pub with-entry : (e : Entry) (v : View) → withEntry (summaryAs v) (e .head) ≡ summaryAs (addedView e v)
 with-entry e v =
     let count : length (v .entries) + 1 ≡ length (v .entries ++ (e ∷ [])) = sym (length-append (v .entries) (e ∷ [])) in
     let scan = sym (after-snoc start (v .entries) e) in

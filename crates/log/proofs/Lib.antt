@@ -7,3 +7,6 @@ pub mod DataBlocks
 pub mod Appending
 pub mod Appended
 pub mod Copying
+pub mod Stepping
+pub mod Gathering
+pub mod Turning

@@ -3,3 +3,5 @@ pub mod Budget
 pub mod Steps
 pub mod Append
 pub mod Copy
+pub mod Copies
+pub mod Turn

@@ -3,9 +3,12 @@ pub mod append;
 pub mod blank;
 pub mod blocks;
 pub mod close;
+pub mod copies;
 pub mod copy;
 pub mod format;
+pub mod mount;
 pub mod reopen;
+pub mod turn;
 
 use layout::Block;
 use layout::Geometry;

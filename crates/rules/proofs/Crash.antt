@@ -3,6 +3,7 @@ pub mod Cuts
 pub mod Standing
 pub mod Shifts
 pub mod Turning
+pub mod Copies
 pub mod Mounting
 pub mod Changing
 pub mod Effects

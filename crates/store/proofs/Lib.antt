@@ -2,3 +2,4 @@
 pub mod Sizes
 pub mod Reading
 pub mod Leaving
+pub mod Mounting

@@ -17,6 +17,8 @@ use Rattle.store.specs.declared.Reply.the-variants as reply
 use Rattle.store.specs.declared.Answer.{Answer}
 use Rattle.store.specs.declared.Answer.the-variants as answer
 use Rattle.store.specs.declared.Outcome.{Outcome}
+use Rattle.store.specs.declared.Begun.{Begun}
+use Rattle.store.specs.declared.Begun.the-variants as begun
 use Rattle.store.specs.declared.Open.{Open}
 use Rattle.store.specs.declared.Open.the-variants as opened
 
@@ -80,3 +82,8 @@ openAs none = opened.Refused refusal.NoStore
 openAs (some (atRest w)) = opened.Working (sectorAt w)
 openAs (some (notReopened w)) = opened.Refused refusal.Unfinished
 openAs (some (midTurn u)) = opened.Refused refusal.Unfinished
+
+-- "a mount gives 1 when it began mid-turn, else 0"
+unfoldable pub begunAs : Option State → Begun
+begunAs none = begun.NoStore
+begunAs (some state) = begun.Turns (rule.mountTurns state)

@@ -10,7 +10,7 @@ ghost use Rattle.rules.specs.Calls as rule;
 ghost use Rattle.layout.specs.Numbers.{sectorNo};
 ghost use Rattle.layout.specs.Geometry.{sectorsOf, Backs};
 ghost use Rattle.image.specs.Answer.{statusOf, viewsIn, Summarizes};
-ghost use Rattle.store.specs.Answer.{openAs, replyAs, numbersOf, refusedAs, outcomeAs, Leaves};
+ghost use Rattle.store.specs.Answer.{openAs, begunAs, replyAs, numbersOf, refusedAs, outcomeAs, Leaves};
 use image::Status;
 use image::Summary;
 use image::ring;
@@ -61,6 +61,12 @@ pub struct Outcome {
 enum Open {
     Working(Sector),
     Refused(Refusal),
+}
+
+// The turns that a mount tells, if there is a store.
+enum Begun {
+    Turns(u32),
+    NoStore,
 }
 
 // Read, write and delete are answered at rest only.
@@ -143,6 +149,34 @@ pub fn format(image: &mut [u8], sector_size: usize, count: usize, allowance: u32
     };
     let budget = log::format::format(image, g, Budget::new(allowance));
     ended(allowance, budget, 0)
+}
+
+// "a mount gives 1 when it began mid-turn, else 0"
+fn mount_turns(status: Status) -> Begun
+    ensures { λ r. ⌜ r ≡ begunAs (statusOf status) ⌝ }
+{
+    match status {
+        Status::Rest(_) => Begun::Turns(0),
+        Status::NotReopened(_) => Begun::Turns(0),
+        Status::MidTurn(_) => Begun::Turns(1),
+        Status::NoStore => Begun::NoStore,
+    }
+}
+
+// Brings a store to rest: makes what a cut left of a turn.
+pub fn mount(image: &mut [u8], sector_size: usize, count: usize, allowance: u32) -> Outcome
+    ensures { λ r. ⌜ Leaves «sector_size» (rule.mountDue «sector_size» count (now (image .entry))) allowance (now (image .entry)) (now (image .exit)) r ⌝ }
+{
+    let Sizes::Legal(g) = Geometry::new(sector_size, count, image.len()) else {
+        return refused(Refusal::Geometry);
+    };
+    let survey = ring::survey(image, g);
+    let status = survey.status;
+    let Begun::Turns(turns) = mount_turns(status) else {
+        return refused(Refusal::NoStore);
+    };
+    let budget = log::mount::mount(image, g, survey, Budget::new(allowance));
+    ended(allowance, budget, turns)
 }
 
 // Copies the value of an ID into the first bytes of the buffer, and leaves the rest of it. A refused read leaves all of it.

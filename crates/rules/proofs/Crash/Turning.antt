@@ -51,7 +51,7 @@ needs-none : needsOf [] ≡ 0
 unfolding needsOf
 needs-none = refl
 
-live-values : (es later : List Entry) → Each (λ (e : Entry). isValue (e .head) ≡ true) (liveAmong es later)
+pub live-values : (es later : List Entry) → Each (λ (e : Entry). isValue (e .head) ≡ true) (liveAmong es later)
 live-values [] later = subst (Each (λ (e : Entry). isValue (e .head) ≡ true)) (sym (live-empty later)) empty
 live-values (e ∷ es) later =
     live-cases e es later (Each (λ (x : Entry). isValue (x .head) ≡ true))

@@ -76,6 +76,14 @@ previous-next S s here =
     (λ a. ⊎-elim (λ b. omega arith) (λ b. omega arith) (previous-cases S (next S s)))
     (next-cases S s)
 
+-- and the successor undoes it
+pub next-previous : (S s : ℕ) → s < S → next S (previous S s) ≡ s
+next-previous S s here =
+    ⊎-elim
+    (λ a. ⊎-elim (λ b. omega arith) (λ b. omega arith) (next-cases S (previous S s)))
+    (λ a. ⊎-elim (λ b. omega arith) (λ b. omega arith) (next-cases S (previous S s)))
+    (previous-cases S s)
+
 module _ (S u : ℕ) (spare : u < S) where
   pub ring-lt : (k : ℕ) → k < S → ringSector S u k < S
   ring-lt k h = ⊎-elim (λ a. omega arith) (λ a. omega arith) (ring-cases S u k)
