@@ -1,14 +1,9 @@
-// The write side: stores under a budget, one whole block at a time.
-pub mod append;
+// The write side: stores under a budget, one whole block at a time, and the steps made of them.
 pub mod blank;
 pub mod blocks;
 pub mod close;
-pub mod copies;
-pub mod copy;
 pub mod format;
-pub mod mount;
 pub mod reopen;
-pub mod turn;
 
 use layout::Block;
 use layout::Geometry;

@@ -15,7 +15,7 @@ use Rattle.layout.specs.declared.Geometry.{Geometry}
 use Rattle.layout.specs.declared.Sizes.the-variants.{Legal, Illegal}
 use Rattle.layout.specs.Geometry.{blocksOf, sectorsOf, sizesOf}
 use Rattle.image.specs.Answer.{viewsIn}
-use Rattle.log.specs.Turn.{mountStores}
+use Rattle.turn.specs.Turn.{mountStores}
 use Rattle.store.specs.declared.Begun.the-variants as begun
 use Rattle.store.specs.Answer.{begunAs}
 use Rattle.store.proofs.Sizes.{at-illegal, at-legal}

@@ -175,7 +175,7 @@ pub fn mount(image: &mut [u8], sector_size: usize, count: usize, allowance: u32)
     let Begun::Turns(turns) = mount_turns(status) else {
         return refused(Refusal::NoStore);
     };
-    let budget = log::mount::mount(image, g, survey, Budget::new(allowance));
+    let budget = turn::mount::mount(image, g, survey, Budget::new(allowance));
     ended(allowance, budget, turns)
 }
 

@@ -240,22 +240,53 @@ fn of_reads() {
     of_sizes();
 }
 
-// ---- formats
+// ---- formats and mounts
 
-// A format of blank bytes.
-fn format(allowance: u32) {
+// Mid-turn, with blocks in sector 2 that would read as close and as done under its next cycle.
+fn stale() -> [u8; IMAGE] {
+    let image = put(mid_turn(), 2, 6, build::close(0));
+    put(image, 2, 5, build::done(0))
+}
+
+// A mount with an allowance, and then one that may make all its stores.
+fn mount_twice(name: &[u8], image: [u8; IMAGE], allowance: u32) {
+    let mut mounted = image;
+    let first = store::mount(&mut mounted, 128, 3, allowance);
+    print_outcome(name, allowance, first, &mounted);
+    let second = store::mount(&mut mounted, 128, 3, 4294967295);
+    print_outcome(b"  then", 4294967295, second, &mounted);
+}
+
+// Every allowance up to the stores due.
+fn mount_each(name: &[u8], image: [u8; IMAGE], due: u32)
+    requires { ⌜ due < 100 ⌝ }
+{
+    let mut allowance = 0;
+    while allowance <= due {
+        mount_twice(name, image, allowance);
+        allowance += 1;
+    }
+}
+
+// A format of blank bytes that is cut, and one that is not, each mounted.
+fn format_and_mount(allowance: u32) {
     let mut image = [255; IMAGE];
     let formatted = store::format(&mut image, 128, 3, allowance);
     print_outcome(b"format", allowance, formatted, &image);
+    let mounted = store::mount(&mut image, 128, 3, 0);
+    print_outcome(b"  mount", 0, mounted, &image);
 }
 
-fn of_formats() {
-    format(1);
-    format(24);
-    format(25);
+fn of_mounts() {
+    format_and_mount(1);
+    format_and_mount(24);
+    format_and_mount(25);
+    mount_each(b"mount at rest", rest(), 0);
+    mount_each(b"mount mid-turn", stale(), 7);
+    mount_each(b"mount done, not reopened", not_reopened(), 1);
 }
 
 fn main() {
     of_reads();
-    of_formats();
+    of_mounts();
 }

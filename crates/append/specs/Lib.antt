@@ -1,0 +1,3 @@
+-- What the contracts of `append` cite, besides the definitions of `rules` and `log`.
+pub mod Append
+pub mod Copy

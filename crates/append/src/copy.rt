@@ -1,0 +1,165 @@
+// Copies a value to another sector, with its data blocks and CRC-32 as they lie.
+ghost use mathlib.Core.Path.{_≡_};
+ghost use mathlib.Core.Bool.{true};
+ghost use mathlib.Core.List.{[]};
+ghost use Prim.Native.Nat.{_+_, _≤_, _<_};
+ghost use lib.ListN.{length, getD, take, drop};
+ghost use Rattle.rules.specs.Ground.{blockSize, imageOf, blockAt};
+ghost use Rattle.rules.specs.Look as rule;
+ghost use Rattle.rules.specs.Meaning.{viewAt, isValue};
+ghost use Rattle.rules.specs.Stores as stores;
+ghost use Rattle.layout.specs.Numbers.{sectorNo, blockNo};
+ghost use Rattle.layout.specs.Geometry.{blocksOf, sectorsOf, Backs};
+ghost use Rattle.entry.specs.Answer.{scanOf};
+ghost use Rattle.image.specs.Answer.{summaryAs, viewsIn};
+ghost use Rattle.log.specs.Budget.{Did, Consistent};
+ghost use Rattle.append.specs.Copy.{entryIn, sourceAs, copyOf};
+use entry::Head;
+use entry::build;
+use entry::look;
+use image::Summary;
+use layout::Block;
+use layout::Geometry;
+use layout::Sector;
+use log::Budget;
+use log::Kind;
+use log::put;
+
+// A value where it lies: its ID and length, and the block at which its data begins, if it has some.
+struct Source {
+    id: u32,
+    length: usize,
+    first: usize,
+}
+
+// Block b of sector s, by value.
+fn block_of(image: &[u8], g: Geometry, s: Sector, b: Block) -> [u8; Geometry::BLOCK_SIZE]
+    requires { ⌜ Backs g (now image) ⌝ }
+    requires { ⌜ sectorNo s < sectorsOf g ⌝ }
+    requires { ⌜ blockNo b < blocksOf g ⌝ }
+    ensures { λ r. ⌜ r ≡ blockAt (imageOf (blocksOf g) (sectorsOf g) (now (image .entry))) (sectorNo s) (blockNo b) ⌝ }
+{
+    crate::data_block(layout::block_at(image, g, s, b), 0)
+}
+
+// What the block of a value's entry tells of it.
+fn source_of(block: &[u8]) -> Source
+    requires { ⌜ length (now block) ≡ blockSize ⌝ }
+    ensures { λ r. ⌜ r ≡ sourceAs (now (block .entry)) ⌝ }
+{
+    let id = layout::le32(block, look::ID_AT);
+    let length = layout::le16(block, look::LENGTH_AT) as usize;
+    if length <= entry::SMALL {
+        return Source {
+            id: id,
+            length: length,
+            first: 0,
+        };
+    }
+    let offset = layout::le32(block, look::BODY_AT) as usize;
+    Source {
+        id: id,
+        length: length,
+        first: offset / Geometry::BLOCK_SIZE,
+    }
+}
+
+// The block of a value's entry for another place.
+fn copied(block: &[u8], cycle: u8, data_end: usize) -> [u8; Geometry::BLOCK_SIZE]
+    requires { ⌜ length (now block) ≡ blockSize ⌝ }
+    requires { ⌜ «data_end» ≤ 4096 ⌝ }
+    ensures { λ r. ⌜ r ≡ copyOf cycle «data_end» (now (block .entry)) ⌝ }
+{
+    let id = layout::le32(block, look::ID_AT);
+    let length = layout::le16(block, look::LENGTH_AT);
+    let small = length as usize;
+    if small <= entry::SMALL {
+        let end = look::BODY_AT + small;
+        return build::small_value(cycle, id, &block[look::BODY_AT..end]);
+    }
+    let offset = data_end * Geometry::BLOCK_SIZE;
+    let check = layout::le32(block, look::SECOND_AT);
+    build::long_value(cycle, id, length, offset as u32, check)
+}
+
+// So many data blocks, from block `source` of one sector on, to another sector, upward from block `first`.
+fn copy_data(
+    image: &mut [u8],
+    g: Geometry,
+    from: Sector,
+    source: usize,
+    to: Sector,
+    first: usize,
+    count: usize,
+    budget: Budget,
+) -> Budget
+    requires { ⌜ Backs g (now image) ⌝ }
+    requires { ⌜ sectorNo «from» < sectorsOf g ⌝ }
+    requires { ⌜ sectorNo to < sectorsOf g ⌝ }
+    requires { ⌜ (sectorNo «from» ≡ sectorNo to → ⊥) ⌝ }
+    requires { ⌜ Consistent budget ⌝ }
+    requires { ⌜ source + count ≤ blocksOf g ⌝ }
+    requires { ⌜ first + count ≤ blocksOf g ⌝ }
+    ensures { λ r. ⌜ Did g (now (image .entry)) (stores.dataStores (sectorNo to) first (take count (drop source (getD (imageOf (blocksOf g) (sectorsOf g) (now (image .entry))) (sectorNo «from») [])))) budget (now (image .exit)) r ⌝ }
+{
+    let mut stored = budget;
+    let mut k = 0;
+    while k < count {
+        let block = block_of(image, g, from, Block::new(source + k));
+        stored = put(
+            image,
+            g,
+            to,
+            Block::new(first + k),
+            Kind::Data,
+            block,
+            stored,
+        );
+        if stored.cut {
+            return stored;
+        }
+        k += 1;
+    }
+    stored
+}
+
+// Entry n of a sector, a value, is appended to another sector.
+pub fn append_copy(
+    image: &mut [u8],
+    g: Geometry,
+    from: Sector,
+    n: usize,
+    to: Sector,
+    summary: Summary,
+    budget: Budget,
+) -> Budget
+    requires { ⌜ Backs g (now image) ⌝ }
+    requires { ⌜ sectorNo «from» < sectorsOf g ⌝ }
+    requires { ⌜ sectorNo to < sectorsOf g ⌝ }
+    requires { ⌜ (sectorNo «from» ≡ sectorNo to → ⊥) ⌝ }
+    requires { ⌜ Consistent budget ⌝ }
+    requires { ⌜ n < length (viewAt (viewsIn g (now image)) (sectorNo «from») .entries) ⌝ }
+    requires { ⌜ isValue (entryIn g (now image) (sectorNo «from») n .head) ≡ true ⌝ }
+    requires { ⌜ summary ≡ summaryAs (viewAt (viewsIn g (now image)) (sectorNo to)) ⌝ }
+    requires { ⌜ rule.isWithin (blocksOf g) (scanOf (summary .scan)) (entryIn g (now image) (sectorNo «from») n .head) ≡ true ⌝ }
+    ensures { λ r. ⌜ Did g (now (image .entry)) (stores.append (blocksOf g) (sectorNo to) (entryIn g (now (image .entry)) (sectorNo «from») n) (imageOf (blocksOf g) (sectorsOf g) (now (image .entry)))) budget (now (image .exit)) r ⌝ }
+{
+    let block = block_of(image, g, from, Block::new(g.blocks() - 3 - n));
+    let source = source_of(&block);
+    let data_end = summary.scan.data_end;
+    let bytes = copied(&block, summary.cycle, data_end);
+    let count = look::data_blocks(source.length);
+    let laid = copy_data(image, g, from, source.first, to, data_end, count, budget);
+    if laid.cut {
+        return laid;
+    }
+    crate::put_entry(
+        image,
+        g,
+        to,
+        summary,
+        Head::Value(source.id, source.length),
+        bytes,
+        laid,
+    )
+}

@@ -1,0 +1,3 @@
+-- What the contracts of `turn` cite, besides the definitions of `rules` and `log`.
+pub mod Copies
+pub mod Turn
