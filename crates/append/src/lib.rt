@@ -7,7 +7,7 @@ ghost use mathlib.Core.List.{_++_};
 ghost use Prim.Native.Nat.{_+_, _^_, _≤_, _<_};
 ghost use lib.ListN.{length, take, drop};
 ghost use Rattle.rules.specs.Notation.{erased};
-ghost use Rattle.rules.specs.Ground.{blockSize, imageOf, blockAt};
+ghost use Rattle.rules.specs.Ground.{blockSize, imageOf};
 ghost use Rattle.rules.specs.Look as rule;
 ghost use Rattle.rules.specs.Meaning.{viewAt};
 ghost use Rattle.rules.specs.Stores as stores;

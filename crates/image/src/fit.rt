@@ -19,7 +19,7 @@ pub enum Fit {
     NoRoom,
 }
 
-// At rest, w being the open sector. Turn t copies what is live in the sector t behind the spare, so after t turns the open
+// At rest, w being the open sector. Turn t copies what is live in the t-th sector after the spare, so after t turns the open
 // sector holds that. The bound on the need only keeps the sums from wrapping.
 pub fn least_turns(
     image: &[u8],

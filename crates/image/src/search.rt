@@ -74,7 +74,7 @@ fn newest_at(image: &[u8], g: Geometry, s: Sector, entries: usize, id: u32) -> H
     newest_in(layout::sector_bytes(image, g, s), g, entries, id)
 }
 
-// At rest all sectors count but the spare: from the working one back round the ring.
+// All sectors but the one after w, from w back round the ring: at rest w is the working one, and the spare is left out.
 pub fn newest_entry(
     image: &[u8],
     g: Geometry,

@@ -68,6 +68,6 @@ pub record Did (g : Geometry) (before : List ℕ) (stores : List rule.Store) (bu
   pub image : after ≡ applyBytes (blocksOf g) (take (budget .left) stores) before
   pub left : budget′ ≡ spent budget stores
 
--- A cut budget has nothing left: so is each that stores leave of an allowance.
+-- A cut budget has nothing left. So it is with every budget that begins as an allowance.
 pub record Consistent (budget : Budget) : Type 0 where
   pub none-left : budget .cut ≡ true → budget .left ≡ 0

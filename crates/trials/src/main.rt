@@ -1,6 +1,7 @@
 // A program of the gate: what the calls answer and leave, on images of every state, held to what the rules say.
 ghost use Prim.Native.Nat.{_<_, _≤_};
 use entry::build;
+use layout::Geometry;
 use log::Kind;
 use log::Last;
 use store::Outcome;
@@ -74,7 +75,7 @@ fn damaged(image: [u8; IMAGE], s: usize, b: usize, byte: usize) -> [u8; IMAGE]
     changed
 }
 
-// The same with sector 1 closed: none is working.
+// As at rest, but with sector 1 closed: none is working.
 fn mid_turn() -> [u8; IMAGE] {
     put(rest(), 1, 6, build::close(SECOND))
 }
@@ -192,7 +193,7 @@ fn of_rest() {
     read(b"rest", image, 8, 12);
     read(b"rest", image, 8, 11);
     read(b"rest", image, 9, 16);
-    read(b"rest", image, 4294967295, 16);
+    read(b"rest", image, Geometry::RESERVED_ID, 16);
 }
 
 // A deletion hides the older value; what is no entry ends the reading of its sector; wrong data is told after a short buffer.
@@ -220,7 +221,7 @@ fn of_states() {
     read(b"spare in use", used, 7, 16);
     let lost = damaged(rest(), 2, 7, 9);
     read(b"lead damaged", lost, 7, 16);
-    read(b"lead damaged", lost, 4294967295, 16);
+    read(b"lead damaged", lost, Geometry::RESERVED_ID, 16);
 }
 
 // Sizes that are not those of the image, or of none.
@@ -230,7 +231,14 @@ fn of_sizes() {
     read_of(b"2 sectors of 192", image, 192, 2, 7, 16);
     read_of(b"1 sector of 384", image, 384, 1, 7, 16);
     read_of(b"4 sectors of 96", image, 96, 4, 7, 16);
-    read_of(b"2 sectors of 128", image, 128, 2, 4294967295, 16);
+    read_of(
+        b"2 sectors of 128",
+        image,
+        128,
+        2,
+        Geometry::RESERVED_ID,
+        16,
+    );
 }
 
 fn of_reads() {
@@ -242,19 +250,23 @@ fn of_reads() {
 
 // ---- formats and mounts
 
-// Mid-turn, with blocks in sector 2 that would read as close and as done under its next cycle.
+// Mid-turn, with blocks in sector 2 that would read under its next cycle: a close, a done, and behind the copy a deletion.
 fn stale() -> [u8; IMAGE] {
     let image = put(mid_turn(), 2, 6, build::close(0));
-    put(image, 2, 5, build::done(0))
+    let image = put(image, 2, 5, build::done(0));
+    put(image, 2, 4, build::deletion(0, 7))
 }
+
+// The largest allowance.
+const ENOUGH: u32 = 4294967295;
 
 // A mount with an allowance, and then one that may make all its stores.
 fn mount_twice(name: &[u8], image: [u8; IMAGE], allowance: u32) {
     let mut mounted = image;
     let first = store::mount(&mut mounted, 128, 3, allowance);
     print_outcome(name, allowance, first, &mounted);
-    let second = store::mount(&mut mounted, 128, 3, 4294967295);
-    print_outcome(b"  then", 4294967295, second, &mounted);
+    let second = store::mount(&mut mounted, 128, 3, ENOUGH);
+    print_outcome(b"  then", ENOUGH, second, &mounted);
 }
 
 // Every allowance up to the stores due.
@@ -268,21 +280,23 @@ fn mount_each(name: &[u8], image: [u8; IMAGE], due: u32)
     }
 }
 
-// A format of blank bytes that is cut, and one that is not, each mounted.
-fn format_and_mount(allowance: u32) {
-    let mut image = [255; IMAGE];
-    let formatted = store::format(&mut image, 128, 3, allowance);
+// A format of a store's bytes, and a mount of what it left.
+fn format_and_mount(count: usize, allowance: u32) {
+    let mut image = rest();
+    let formatted = store::format(&mut image, 128, count, allowance);
     print_outcome(b"format", allowance, formatted, &image);
-    let mounted = store::mount(&mut image, 128, 3, 0);
+    let mounted = store::mount(&mut image, 128, count, 0);
     print_outcome(b"  mount", 0, mounted, &image);
 }
 
 fn of_mounts() {
-    format_and_mount(1);
-    format_and_mount(24);
-    format_and_mount(25);
+    format_and_mount(3, 1);
+    format_and_mount(3, 24);
+    format_and_mount(3, 25);
+    format_and_mount(4, 25);
     mount_each(b"mount at rest", rest(), 0);
-    mount_each(b"mount mid-turn", stale(), 7);
+    mount_each(b"mount with a damaged lead", damaged(rest(), 2, 7, 9), 0);
+    mount_each(b"mount mid-turn", stale(), 8);
     mount_each(b"mount done, not reopened", not_reopened(), 1);
 }
 

@@ -11,7 +11,7 @@ use Rattle.entry.specs.Answer.{scanOf}
 use Rattle.image.specs.declared.Summary.{Summary}
 use Rattle.image.specs.Answer.{summaryAs, viewsIn}
 
--- The summary is that of the sector that was copied to, which has room for its done; the other sectors show what they did.
+-- The summary is that of the sector that was copied to, which has no done yet; the other sectors show what they did.
 pub record Gathered (g : Geometry) (to : ℕ) (before after : List ℕ) (summary : Summary) : Type 0 where
   pub told : summary ≡ summaryAs (viewAt (viewsIn g after) to)
   pub room : isWithin (blocksOf g) (scanOf (summary .scan)) done ≡ true

@@ -30,7 +30,7 @@ use layout::Sector;
 use log::Budget;
 use mask::marks::Marks;
 
-// What is left of the budget, and what the sector that was copied to comes to now.
+// What is left of the budget, and what the sector that was copied to comes to now. Where the budget is cut the summary says nothing.
 pub struct Copied {
     pub budget: Budget,
     pub summary: Summary,

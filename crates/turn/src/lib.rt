@@ -1,5 +1,5 @@
-// Turns the ring: the working sector is closed, the live values of the oldest one are copied to the spare, and the oldest becomes
-// the new spare. What the sectors come to is carried along by value, so that none is read again.
+// Turns the ring: the working sector is closed, the live values of the oldest one are copied to the spare, a done makes that the
+// working one, and the oldest becomes the new spare. What the sectors come to is carried along by value, so that none is read again.
 pub mod copies;
 pub mod mount;
 
