@@ -1,5 +1,5 @@
 -- What the proofs of the functions share.
 pub mod Sizes
 pub mod Reading
-pub mod Leaving
 pub mod Mounting
+pub mod Changing

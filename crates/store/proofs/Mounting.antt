@@ -17,7 +17,7 @@ use Rattle.layout.specs.Geometry.{blocksOf, sectorsOf, sizesOf}
 use Rattle.image.specs.Answer.{viewsIn}
 use Rattle.turn.specs.Turn.{mountStores}
 use Rattle.store.specs.declared.Begun.the-variants as begun
-use Rattle.store.specs.Answer.{begunAs}
+use Rattle.store.specs.State.{begunAs}
 use Rattle.store.proofs.Sizes.{at-illegal, at-legal}
 
 abbrev mountBy : (B S : ℕ) → Image → State → Due

@@ -1,63 +1,26 @@
--- What a read answers, by what is told of the ID: the four cases of its rule.
+-- What a read answers, by its checks in order, and what is left of the rule at rest.
 -- Assumes nothing.
-use mathlib.Core.Path.{_≡_, refl, sym, ap, _∙_}
-use mathlib.Core.Bool.{true, false}
-use mathlib.Core.List.{List, _++_}
-use mathlib.Core.Option.{Option, none, some}
-use Prim.Native.Nat.{ℕ, _<_, _≤_}
-use lib.ListN.{length, take, drop}
-use borrow.Author.Tests.{lt-ltb, le-ltb, eq-eqb, ne-eqb}
+use mathlib.Core.Path.{_≡_, _∙_}
+use mathlib.Core.List.{List}
+use mathlib.Core.Option.{some}
+use Prim.Native.Nat.{ℕ}
+use lib.ListN.{length}
+use borrow.Author.Tests.{eq-eqb, ne-eqb}
 use Rattle.rules.specs.Ground.{reservedId, imageOf}
-use Rattle.rules.specs.Reading.{Entry}
-use Rattle.rules.specs.Meaning.{atRest, stateOf, history, lookup, isSound}
+use Rattle.rules.specs.Meaning.{atRest, stateOf, history, lookup}
 use Rattle.rules.specs.Calls as rule
-use Rattle.rules.specs.Calls.{readEntry, bufferAfter}
+use Rattle.rules.specs.Calls.{readEntry}
 use Rattle.rules.proofs.Basics.Notation.{if-true, if-false}
-use Rattle.rules.proofs.Basics.Lists.{length-part}
 use Rattle.layout.specs.declared.Geometry.{Geometry}
 use Rattle.layout.specs.declared.Sizes.the-variants.{Legal, Illegal}
 use Rattle.layout.specs.Geometry.{blocksOf, sectorsOf, sizesOf}
 use Rattle.image.specs.Answer.{viewsIn}
-use Rattle.image.specs.declared.search.Check.{Check}
-use Rattle.image.specs.Value.{passes}
-use Rattle.image.proofs.Valued.{Holds}
-use Rattle.store.specs.declared.Refusal.{Refusal}
+use Rattle.answer.specs.declared.Refusal.{Refusal}
+use Rattle.answer.specs.Answer.{refusalOf}
+use Rattle.rest.proofs.Changing.{in-rest}
 use Rattle.store.specs.declared.Open.the-variants as opened
-use Rattle.store.specs.Answer.{refusalOf, refusalAs, replyAs, numbersOf, openAs}
-use Rattle.store.proofs.Sizes.{at-illegal, at-legal, in-rest, not-in-rest}
-
-pub reply-absent : (room : ℕ) {told : Option Entry} → told ≡ none → readEntry room told ≡ rule.refused rule.absent
-unfolding readEntry
-reply-absent room e = rw e
-
-module _ {bytes : List ℕ} {told : Option Entry} {place len : ℕ} {check : Check} (h : Holds bytes told place len check) (room : ℕ) where
-  pub reply-short : room < len → readEntry room told ≡ rule.refused (rule.shortBuffer len)
-  unfolding readEntry
-  reply-short short = rw (h .told, h .length, lt-ltb room len short, if-true)
-
-  checked : isSound (h .entry) ≡ passes check (take len (drop place bytes))
-  checked = h .checked ∙ ap (passes check) (h .lies)
-
-  pub reply-bad : len ≤ room → passes check (take len (drop place bytes)) ≡ false → readEntry room told ≡ rule.refused rule.badData
-  unfolding readEntry
-  reply-bad fits wrong = rw (h .told, h .length, le-ltb room len fits, if-false, checked ∙ wrong, if-false)
-
-  pub reply-found : len ≤ room → passes check (take len (drop place bytes)) ≡ true → readEntry room told ≡ rule.found (h .entry)
-  unfolding readEntry
-  reply-found fits right = rw (h .told, h .length, le-ltb room len fits, if-false, checked ∙ right, if-true)
-
-  -- "buffer's first bytes the value, rest unchanged"
-  pub buffer-found : (buffer : List ℕ)
-      → bufferAfter (rule.found (h .entry)) buffer ≡ take len (drop place bytes) ++ drop (length (take len (drop place bytes))) buffer
-  unfolding bufferAfter
-  buffer-found buffer = rw (h .lies, h .length, length-part len place bytes (h .inside))
-
--- the answer, as it is told, and the buffer together
-pub both {ℓ} : {A : Type ℓ} (told : rule.Reply → A) {reply due : rule.Reply} (buffer : List ℕ) → due ≡ reply
-    → (told reply ≡ told due) × (bufferAfter reply buffer ≡ bufferAfter due buffer)
-both told buffer e = (ap told (sym e), ap (λ (r : rule.Reply). bufferAfter r buffer) (sym e))
-
--- ---- the checks before it
+use Rattle.store.specs.State.{openAs}
+use Rattle.store.proofs.Sizes.{at-illegal, at-legal, not-in-rest}
 
 module _ (size count : ℕ) (bytes : List ℕ) (id room : ℕ) where
   pub read-illegal : sizesOf size count (length bytes) ≡ Illegal → rule.read size count bytes id room ≡ rule.refused rule.geometry
@@ -88,23 +51,3 @@ module _ (size count : ℕ) (bytes : List ℕ) (id room : ℕ) where
       pub read-unready : {r : Refusal} → openAs (stateOf (viewsIn g bytes)) ≡ opened.Refused r
           → rule.read size count bytes id room ≡ rule.refused (refusalOf r)
       read-unready e = read-user ∙ not-in-rest rule.refused lookedUp (stateOf (viewsIn g bytes)) e
-
--- ---- the numbers
-
-refusal-as : (r : rule.Refusal) → refusalOf (refusalAs r) ≡ r
-unfolding refusalOf refusalAs
-refusal-as rule.geometry = refl
-refusal-as rule.noStore = refl
-refusal-as rule.unfinished = refl
-refusal-as rule.reserved = refl
-refusal-as rule.empty = refl
-refusal-as rule.tooLong = refl
-refusal-as rule.noRoom = refl
-refusal-as rule.absent = refl
-refusal-as rule.badData = refl
-refusal-as (rule.shortBuffer len) = refl
-
-pub numbers-as : (r : rule.Reply) → numbersOf (replyAs r) ≡ rule.replyNumbers r
-unfolding numbersOf replyAs rule.replyNumbers
-numbers-as (rule.found e) = refl
-numbers-as (rule.refused r) = ap (λ (x : rule.Refusal). rule.replyNumbers (rule.refused x)) (refusal-as r)

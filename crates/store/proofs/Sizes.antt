@@ -17,10 +17,11 @@ use Rattle.layout.specs.declared.Sizes.the-variants.{Legal, Illegal}
 use Rattle.layout.specs.Geometry.{blocksOf, sectorsOf, sizesOf}
 use Rattle.layout.specs.Numbers.{sectorNo, sectorAt}
 use Rattle.layout.proofs.Laws.{from-sizes, not-sizes}
-use Rattle.store.specs.declared.Refusal.{Refusal}
-use Rattle.store.specs.declared.Refusal.the-variants as refusal
+use Rattle.answer.specs.declared.Refusal.{Refusal}
+use Rattle.answer.specs.declared.Refusal.the-variants as refusal
+use Rattle.answer.specs.Answer.{refusalOf}
 use Rattle.store.specs.declared.Open.the-variants as opened
-use Rattle.store.specs.Answer.{refusalOf, openAs}
+use Rattle.store.specs.State.{openAs}
 
 -- ---- the sizes
 
@@ -46,10 +47,6 @@ open-working (some (notReopened s)) {w} e = let z : _≡_ {A = ℕ} 0 1 = cc in 
 open-working (some (midTurn s)) {w} e = let z : _≡_ {A = ℕ} 0 1 = cc in absurd (omega arith)
 
 module _ {ℓ} {A : Type ℓ} (reason : rule.Refusal → A) (call : ℕ → A) where
-  pub in-rest : {o : Option State} {w : ℕ} → o ≡ some (atRest w) → inRest o reason call ≡ call w
-  unfolding inRest
-  in-rest e = rw e
-
   pub not-in-rest : (o : Option State) {r : Refusal} → openAs o ≡ opened.Refused r → inRest o reason call ≡ reason (refusalOf r)
   unfolding inRest openAs refusalOf
   not-in-rest none {r} e = let same : refusal.NoStore ≡ r = cc in ap (λ (x : Refusal). reason (refusalOf x)) same

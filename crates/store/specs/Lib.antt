@@ -1,2 +1,2 @@
 -- What the contracts of `store` cite, besides the definitions of `rules` and of the crates below.
-pub mod Answer
+pub mod State

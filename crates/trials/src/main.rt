@@ -1,11 +1,11 @@
 // A program of the gate: what the calls answer and leave, on images of every state, held to what the rules say.
 ghost use Prim.Native.Nat.{_<_, _≤_};
+use answer::Outcome;
+use answer::Reply;
 use entry::build;
 use layout::Geometry;
 use log::Kind;
 use log::Last;
-use store::Outcome;
-use store::Reply;
 
 // ---- images of 3 sectors of 128 bytes, built block by block
 

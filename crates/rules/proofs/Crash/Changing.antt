@@ -172,7 +172,7 @@ module _ (S : ℕ) (two : 2 ≤ S) where
 
 module _ (B S : ℕ) (big : 8 ≤ B) (most : B ≤ 4096) (two : 2 ≤ S) (T : ℕ → Option Entry) where
   -- so many turns from rest
-  turns-go : (t : ℕ) (im : Image) {w : ℕ} {sectors : List (List Entry)}
+  pub turns-go : (t : ℕ) (im : Image) {w : ℕ} {sectors : List (List Entry)}
       → ((id : ℕ) → lookup id (concat sectors) ≡ T id) → IsImage B S im → w < S → Rests S w sectors (viewsOf B im)
       → Goes B S (turns B S t w) im (Stands S T) (Rests S (moved S t w) (times t turned sectors))
   unfolding turns moved times

@@ -14,11 +14,11 @@ use Rattle.layout.proofs.Laws.{legal-backs, from-sizes}
 use Rattle.log.specs.declared.Budget.{Budget}
 use Rattle.log.specs.Budget.{budgetOf, Did, Consistent}
 use Rattle.log.proofs.Spent.{new-consistent}
-use Rattle.store.specs.declared.Outcome.{Outcome}
-use Rattle.store.specs.declared.Refusal.the-variants as refusal
-use Rattle.store.specs.Answer.{refusalOf, Leaves}
+use Rattle.answer.specs.declared.Outcome.{Outcome}
+use Rattle.answer.specs.declared.Refusal.the-variants as refusal
+use Rattle.answer.specs.Answer.{refusalOf, Leaves}
 use Rattle.store.proofs.Sizes.{at-illegal, at-legal}
-use Rattle.store.proofs.Leaving.{left-within, leaves-made, leaves-refused}
+use Rattle.answer.proofs.Leaving.{left-within, leaves-made, leaves-refused}
 use Rattle.store.proofs.format.Statement.{statement}
 use Rattle.store.proofs.format.Tie as tie
 

@@ -11,9 +11,10 @@ use Rattle.image.specs.Answer.{viewsIn}
 use Rattle.image.proofs.Laws.{survey-state}
 use Rattle.log.specs.Budget.{Consistent}
 use Rattle.log.proofs.Spent.{new-consistent}
-use Rattle.store.specs.declared.Refusal.the-variants as refusal
-use Rattle.store.specs.Answer.{refusalOf, begunAs, Leaves}
-use Rattle.store.proofs.Leaving.{left-within, leaves-made, leaves-refused}
+use Rattle.answer.specs.declared.Refusal.the-variants as refusal
+use Rattle.answer.specs.Answer.{refusalOf, Leaves}
+use Rattle.store.specs.State.{begunAs}
+use Rattle.answer.proofs.Leaving.{left-within, leaves-made, leaves-refused}
 use Rattle.store.proofs.Mounting.{mount-illegal, mount-none, mount-due}
 use Rattle.store.proofs.mount.Statement.{statement}
 use Rattle.store.proofs.mount.Tie as tie

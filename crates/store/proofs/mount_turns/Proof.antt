@@ -5,7 +5,7 @@ use borrow.Author.Needs.{needs}
 use Rattle.rules.specs.Calls.{mountTurns}
 use Rattle.image.specs.declared.Status.{Status}
 use Rattle.image.specs.Answer.{statusOf}
-use Rattle.store.specs.Answer.{begunAs}
+use Rattle.store.specs.State.{begunAs}
 use Rattle.store.proofs.mount_turns.Statement.{statement}
 use Rattle.store.proofs.mount_turns.Tie as tie
 

@@ -15,11 +15,14 @@ use Rattle.layout.proofs.Laws.{legal-backs}
 use Rattle.image.specs.declared.Status.{Status}
 use Rattle.image.specs.Answer.{statusOf, viewsIn, Summarizes}
 use Rattle.image.proofs.Laws.{survey-state, survey-summaries, rest-inside}
-use Rattle.store.specs.declared.Refusal.{Refusal}
-use Rattle.store.specs.declared.Reply.the-variants as reply
-use Rattle.store.specs.Answer.{openAs, refusalOf, refusalAs, replyAs, numbersOf}
+use Rattle.answer.specs.declared.Refusal.{Refusal}
+use Rattle.answer.specs.declared.Reply.the-variants as reply
+use Rattle.answer.specs.Answer.{refusalOf, refusalAs, replyAs, replyNumbersOf}
+use Rattle.store.specs.State.{openAs}
 use Rattle.store.proofs.Sizes.{open-working}
-use Rattle.store.proofs.Reading.{both, read-illegal, read-reserved, read-rest, read-unready, numbers-as}
+use Rattle.answer.proofs.Told.{numbers-as}
+use Rattle.rest.proofs.Reading.{both}
+use Rattle.store.proofs.Reading.{read-illegal, read-reserved, read-rest, read-unready}
 use Rattle.store.proofs.read.Statement.{statement}
 use Rattle.store.proofs.read.Tie as tie
 
@@ -55,7 +58,7 @@ enum-told : tie.Need-enum-told
 enum-told c = search needs
 
 returns : tie.Need-returns
-unfolding numbersOf refusalOf bufferAfter
+unfolding replyNumbersOf refusalOf bufferAfter
 returns c =
     let k = c .before .before .before .before .before in
     let a = k .args in
@@ -63,7 +66,7 @@ returns c =
     (read-illegal (a .sector-size) (a .count) (a .image .now) (a .id) (length (a .buffer .now)) (sym (c .before .before .new .ensures) ∙ c .enum-told .given .1))
 
 returns-2 : tie.Need-returns-2
-unfolding numbersOf refusalOf bufferAfter
+unfolding replyNumbersOf refusalOf bufferAfter
 returns-2 c =
     let l = c .before in
     let a = l .before .before .before .before .before .before .args in
@@ -79,8 +82,8 @@ open-sector-requires c κs = search needs
 enum-known-w : tie.Need-enum-known-w
 enum-known-w c = search needs
 
-read-at-rest-requires : tie.Need-read-at-rest-requires
-read-at-rest-requires c κs =
+read-requires : tie.Need-read-requires
+read-requires c κs =
     let o = c .before .before .before .before in
     let l = o .before .before .before .before in
     let a = l .before .before .before .before .before .before .args in
@@ -102,11 +105,11 @@ returns-3 c =
     let l = o .before .before .before .before in
     let a = l .before .before .before .before .before .before .args in
     let due = read-rest (a .sector-size) (a .count) (a .image .now) (a .id) (length (a .buffer .now)) (l .before .g .given .0 .0) (legal l) (o .before .before .before .if1 .left) (rest w) in
-    let r = c .before .before .read-at-rest .ensures in
-    (ap numbersOf (r .0) ∙ numbers-as _ ∙ ap replyNumbers (sym due), r .1 ∙ ap (λ (x : rule.Reply). bufferAfter x (a .buffer .now)) (sym due))
+    let r = c .before .before .read .ensures in
+    (ap replyNumbersOf (r .0) ∙ numbers-as _ ∙ ap replyNumbers (sym due), r .1 ∙ ap (λ (x : rule.Reply). bufferAfter x (a .buffer .now)) (sym due))
 
 returns-4 : tie.Need-returns-4
-unfolding numbersOf bufferAfter
+unfolding replyNumbersOf bufferAfter
 returns-4 c =
     let o = c .before .before .before in
     let l = o .before .before .before .before in
@@ -126,7 +129,7 @@ read-spec =
     survey-requires
     open-sector-requires
     enum-known-w
-    read-at-rest-requires
+    read-requires
     enum-known-refusal
     same-length
     returns-3

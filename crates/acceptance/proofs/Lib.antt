@@ -1,0 +1,7 @@
+-- The proofs of the demands, from the calls' contracts and the laws of `rules`.
+pub mod Numbers
+pub mod Steps
+pub mod Mounting
+pub mod Demand1
+pub mod Demand2
+pub mod Demand3

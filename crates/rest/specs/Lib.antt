@@ -1,0 +1,1 @@
+-- What the contracts of `rest` cite is in the crates below.

@@ -1,0 +1,116 @@
+// What read, write and delete do with an image at rest, whose working sector is w, once what they were given is checked.
+ghost use mathlib.Core.Path.{_≡_};
+ghost use Prim.Native.Nat.{_*_, _-_, _<_, _≤_};
+ghost use lib.ListN.{length};
+ghost use Rattle.rules.specs.Ground.{blockSize, reservedId, keptFromValues, imageOf};
+ghost use Rattle.rules.specs.Look as look;
+ghost use Rattle.rules.specs.Look.{needOf};
+ghost use Rattle.rules.specs.Meaning.{atRest, history, lookup};
+ghost use Rattle.rules.specs.Calls as rule;
+ghost use Rattle.layout.specs.Numbers.{sectorNo};
+ghost use Rattle.layout.specs.Geometry.{blocksOf, sectorsOf, Backs};
+ghost use Rattle.image.specs.Answer.{viewsIn, Summarizes};
+ghost use Rattle.change.specs.Ready.{Ready};
+ghost use Rattle.answer.specs.Answer.{replyAs, Leaves};
+use answer::Outcome;
+use answer::Refusal;
+use answer::Reply;
+use image::Summary;
+use image::fit;
+use image::fit::Fit;
+use image::search;
+use image::search::Found;
+use image::value;
+use layout::Geometry;
+use layout::Sector;
+use log::Budget;
+
+// The value that is found, where the buffer is long enough and its bytes are right.
+pub fn read(
+    image: &[u8],
+    g: Geometry,
+    sectors: [Summary; Geometry::MAX_SECTORS],
+    w: Sector,
+    id: u32,
+    buffer: &mut [u8],
+) -> Reply
+    requires { ⌜ Backs g (now image) ⌝ }
+    requires { ⌜ Summarizes (viewsIn g (now image)) sectors ⌝ }
+    requires { ⌜ sectorNo w < sectorsOf g ⌝ }
+    requires { ⌜ (id ≡ reservedId → ⊥) ⌝ }
+    ensures answer { λ r. ⌜ r ≡ replyAs (rule.readEntry (length (now (buffer .entry))) (lookup id (history (atRest (sectorNo w)) (viewsIn g (now (image .entry)))))) ⌝ }
+    ensures buffer { λ r. ⌜ now (buffer .exit) ≡ rule.bufferAfter (rule.readEntry (length (now (buffer .entry))) (lookup id (history (atRest (sectorNo w)) (viewsIn g (now (image .entry)))))) (now (buffer .entry)) ⌝ }
+{
+    let Found::Value(place, length, check) = search::find(image, g, sectors, w, id) else {
+        return Reply::Refused(Refusal::Absent);
+    };
+    if buffer.len() < length {
+        return Reply::Refused(Refusal::ShortBuffer(length));
+    }
+    let start = place.number();
+    let bytes = &image[start..start + length];
+    if !value::passes(check, bytes) {
+        return Reply::Refused(Refusal::BadData);
+    }
+    value::copy(bytes, buffer);
+    Reply::Value(length)
+}
+
+// A value that is neither empty nor too long. Whether it fits is known before the first store.
+pub fn write(
+    image: &mut [u8],
+    g: Geometry,
+    sectors: [Summary; Geometry::MAX_SECTORS],
+    w: Sector,
+    id: u32,
+    value: &[u8],
+    need: usize,
+    allowance: u32,
+) -> Outcome
+    requires { ⌜ Backs g (now image) ⌝ }
+    requires { ⌜ Ready g (now image) sectors (sectorNo w) ⌝ }
+    requires { ⌜ (id ≡ reservedId → ⊥) ⌝ }
+    requires { ⌜ 1 ≤ length (now value) ⌝ }
+    requires { ⌜ need ≡ needOf (look.value id (length (now value))) ⌝ }
+    requires { ⌜ need ≤ blocksOf g - keptFromValues ⌝ }
+    ensures { λ r. ⌜ Leaves (blocksOf g * blockSize) (rule.writeOn (blocksOf g) (sectorsOf g) (imageOf (blocksOf g) (sectorsOf g) (now (image .entry))) id (now (value .entry))) allowance (now (image .entry)) (now (image .exit)) r ⌝ }
+{
+    let Fit::After(turns) = fit::least_turns(image, g, sectors, w, need, g.value_limit()) else {
+        return Outcome::refused(Refusal::NoRoom);
+    };
+    let left = change::write(
+        image,
+        g,
+        sectors,
+        w,
+        turns,
+        id,
+        value,
+        Budget::new(allowance),
+    );
+    Outcome::ended(allowance, left, turns as u32)
+}
+
+// The deletion of an ID that has a value.
+pub fn delete(
+    image: &mut [u8],
+    g: Geometry,
+    sectors: [Summary; Geometry::MAX_SECTORS],
+    w: Sector,
+    id: u32,
+    allowance: u32,
+) -> Outcome
+    requires { ⌜ Backs g (now image) ⌝ }
+    requires { ⌜ Ready g (now image) sectors (sectorNo w) ⌝ }
+    requires { ⌜ (id ≡ reservedId → ⊥) ⌝ }
+    ensures { λ r. ⌜ Leaves (blocksOf g * blockSize) (rule.deleteOn (blocksOf g) (sectorsOf g) (imageOf (blocksOf g) (sectorsOf g) (now (image .entry))) id) allowance (now (image .entry)) (now (image .exit)) r ⌝ }
+{
+    let Found::Value(_, _, _) = search::find(image, g, sectors, w, id) else {
+        return Outcome::refused(Refusal::Absent);
+    };
+    let Fit::After(turns) = fit::least_turns(image, g, sectors, w, 1, g.deletion_limit()) else {
+        return Outcome::refused(Refusal::NoRoom);
+    };
+    let budget = change::delete(image, g, sectors, w, turns, id, Budget::new(allowance));
+    Outcome::ended(allowance, budget, turns as u32)
+}
