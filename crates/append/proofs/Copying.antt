@@ -33,7 +33,7 @@ use Rattle.layout.specs.declared.Geometry.{Geometry}
 use Rattle.layout.specs.Geometry.{blocksOf, sectorsOf, Backs}
 use Rattle.layout.proofs.Laws.{block-sized}
 use Rattle.image.specs.Answer.{viewsIn}
-use Rattle.image.specs.Search.{noEntry}
+use Rattle.image.specs.Answer.{noEntry}
 use Rattle.log.specs.declared.Budget.{Budget}
 use Rattle.log.specs.Budget.{Did}
 use Rattle.append.specs.Copy.{entryIn, firstOf, copyOf}

@@ -10,7 +10,7 @@ use Rattle.rules.specs.Reading.{Entry}
 use Rattle.rules.specs.Meaning.{viewAt}
 use Rattle.layout.specs.declared.Geometry.{Geometry}
 use Rattle.image.specs.Answer.{viewsIn}
-use Rattle.image.specs.Search.{noEntry}
+use Rattle.image.specs.Answer.{noEntry}
 use Rattle.append.specs.declared.copy.Source.{Source}
 
 -- entry n of sector s, 0 being the sector's oldest

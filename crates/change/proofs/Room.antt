@@ -23,10 +23,10 @@ use Rattle.layout.specs.Geometry.{blocksOf, sectorsOf, Backs}
 use Rattle.entry.specs.Answer.{scanOf}
 use Rattle.image.specs.declared.Summary.{Summary}
 use Rattle.image.specs.Answer.{summaryAs, noSummary, viewsIn}
-use Rattle.image.specs.Fit.{fitAs}
+use Rattle.live.specs.Fit.{fitAs}
 use Rattle.image.proofs.Sectors.{views-count}
 use Rattle.image.proofs.Laws.{rest-inside}
-use Rattle.image.proofs.FitLaws.{room-after}
+use Rattle.live.proofs.FitLaws.{room-after}
 use Rattle.log.specs.declared.Budget.{Budget}
 use Rattle.log.specs.Budget.{Did, Consistent}
 use Rattle.log.proofs.Laws.{did-whole, did-and-then, did-and-then-cut}

@@ -16,7 +16,7 @@ use Rattle.layout.proofs.Laws.{block-sized}
 use Rattle.mask.specs.Marks.{maxMarks}
 use Rattle.image.specs.declared.Summary.{Summary}
 use Rattle.image.specs.Answer.{noSummary, viewsIn, Summarizes}
-use Rattle.image.specs.Search.{noEntry}
+use Rattle.image.specs.Answer.{noEntry}
 use Rattle.image.proofs.Sectors.{views-count, view-read}
 use Rattle.image.proofs.Laws.{entries-counted}
 

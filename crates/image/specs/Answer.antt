@@ -1,14 +1,14 @@
 -- The crate's types beside the plain data of the rules: `..Of` reads one as the other, `..As` gives the answer for it.
 use mathlib.Core.Path.{_≡_}
 use mathlib.Core.Bool.{Bool, true, false}
-use mathlib.Core.List.{List}
+use mathlib.Core.List.{List, []}
 use mathlib.Core.Option.{Option, none, some}
 use Prim.Native.Nat.{ℕ, _<_}
 use lib.ListN.{length, getD, set}
 use Rattle.rules.specs.Notation.{if_then_else_, all}
 use Rattle.rules.specs.Ground.{imageOf}
-use Rattle.rules.specs.Look.{start}
-use Rattle.rules.specs.Reading.{View, afterAll}
+use Rattle.rules.specs.Look.{done, start}
+use Rattle.rules.specs.Reading.{Entry, View, afterAll}
 use Rattle.rules.specs.Meaning.{State, atRest, notReopened, midTurn, viewsOf, viewAt, stateBy, stateOf}
 use Rattle.layout.specs.declared.Geometry.{Geometry}
 use Rattle.layout.specs.Geometry.{blocksOf, sectorsOf}
@@ -65,3 +65,7 @@ pub record Decides (g : Geometry) (sectors : List Summary) (working unfinished :
 pub record Surveys (g : Geometry) (bytes : List ℕ) (r : Survey) : Type 0 where
   pub status : r .status ≡ statusAs (stateOf (viewsIn g bytes))
   pub sectors : all (λ (v : View). v .led) (viewsIn g bytes) ≡ true → Summarizes (viewsIn g bytes) (r .sectors)
+
+-- what stands where no entry is
+abbrev pub noEntry : Entry
+noEntry = record { head = done; inline = []; blocks = [] }

@@ -1,11 +1,6 @@
-// What an image means: its sectors, the state that they make together, the newest entry of an ID, the live values, and the
-// room for one more entry.
+// What an image means: its sectors, and the state that they make together.
 pub mod entries;
-pub mod fit;
-pub mod live;
 pub mod ring;
-pub mod search;
-pub mod value;
 
 use entry::Scan;
 use layout::Geometry;

@@ -13,9 +13,9 @@ use Rattle.rules.specs.Calls as rule
 use Rattle.rules.specs.Calls.{readEntry, bufferAfter}
 use Rattle.rules.proofs.Basics.Notation.{if-true, if-false}
 use Rattle.rules.proofs.Basics.Lists.{length-part}
-use Rattle.image.specs.declared.search.Check.{Check}
-use Rattle.image.specs.Value.{passes}
-use Rattle.image.proofs.Valued.{Holds}
+use Rattle.search.specs.declared.Check.{Check}
+use Rattle.search.specs.Value.{passes}
+use Rattle.search.proofs.Valued.{Holds}
 
 pub reply-absent : (room : ℕ) {told : Option Entry} → told ≡ none → readEntry room told ≡ rule.refused rule.absent
 unfolding readEntry

@@ -16,14 +16,13 @@ use answer::Outcome;
 use answer::Refusal;
 use answer::Reply;
 use image::Summary;
-use image::fit;
-use image::fit::Fit;
-use image::search;
-use image::search::Found;
-use image::value;
 use layout::Geometry;
 use layout::Sector;
+use live::fit;
+use live::fit::Fit;
 use log::Budget;
+use search::Found;
+use search::value;
 
 // The value that is found, where the buffer is long enough and its bytes are right.
 pub fn read(

@@ -25,11 +25,11 @@ use Rattle.layout.specs.Geometry.{blocksOf, sectorsOf, Backs}
 use Rattle.entry.specs.Answer.{scanOf}
 use Rattle.image.specs.declared.Summary.{Summary}
 use Rattle.image.specs.Answer.{summaryAs, viewsIn}
-use Rattle.image.specs.Search.{noEntry}
-use Rattle.image.specs.Live.{liveFlagsIn}
+use Rattle.image.specs.Answer.{noEntry}
+use Rattle.live.specs.Live.{liveFlagsIn}
 use Rattle.image.proofs.Laws.{entries-counted}
 use Rattle.image.proofs.Sectors.{views-count}
-use Rattle.image.proofs.LiveLaws.{chosen, chosen-here, chosen-passed, chosen-end, live-flag, length-live-in, chosen-live-in}
+use Rattle.live.proofs.LiveLaws.{chosen, chosen-here, chosen-passed, chosen-end, live-flag, length-live-in, chosen-live-in}
 use Rattle.log.specs.declared.Budget.{Budget}
 use Rattle.log.specs.Budget.{Did, Consistent}
 use Rattle.append.specs.Append.{withEntry}

@@ -15,7 +15,7 @@ ghost use Rattle.mask.specs.Flags.{padded};
 ghost use Rattle.mask.specs.Marks.{maxMarks, marksOf};
 ghost use Rattle.entry.specs.Answer.{scanOf, headOf};
 ghost use Rattle.image.specs.Answer.{summaryAs, viewsIn};
-ghost use Rattle.image.specs.Live.{liveFlagsIn};
+ghost use Rattle.live.specs.Live.{liveFlagsIn};
 ghost use Rattle.log.specs.Budget.{Did, Consistent};
 ghost use Rattle.append.specs.Append.{withEntry};
 ghost use Rattle.append.specs.Copy.{entryIn};

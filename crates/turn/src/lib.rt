@@ -22,7 +22,6 @@ ghost use Rattle.turn.specs.Turn.{withClose, withReopening, Went};
 use entry::Head;
 use entry::Scan;
 use image::Summary;
-use image::live;
 use image::ring;
 use layout::Geometry;
 use layout::Sector;

@@ -14,8 +14,8 @@ use Rattle.rules.specs.Calls as rule
 use Rattle.rules.specs.Calls.{readEntry, bufferAfter}
 use Rattle.layout.specs.Numbers.{placeNo}
 use Rattle.image.specs.Answer.{viewsIn}
-use Rattle.image.specs.Value.{passes}
-use Rattle.image.proofs.Valued.{Holds, found-value, found-nothing}
+use Rattle.search.specs.Value.{passes}
+use Rattle.search.proofs.Valued.{Holds, found-value, found-nothing}
 use Rattle.answer.specs.declared.Reply.the-variants as reply
 use Rattle.answer.specs.Answer.{replyAs, refusalAs}
 use Rattle.rest.proofs.Reading.{both, reply-absent, reply-short, reply-bad, reply-found, buffer-found}

@@ -13,9 +13,9 @@ use Rattle.rules.specs.Calls.{changeOn, writeOn}
 use Rattle.layout.specs.Numbers.{sectorNo}
 use Rattle.layout.specs.Geometry.{blocksOf, sectorsOf}
 use Rattle.image.specs.Answer.{viewsIn}
-use Rattle.image.specs.Fit.{fitAs}
+use Rattle.live.specs.Fit.{fitAs}
 use Rattle.image.proofs.Laws.{rest-inside}
-use Rattle.image.proofs.FitLaws.{fit-after, no-room-due, after-due, turns-below}
+use Rattle.live.proofs.FitLaws.{fit-after, no-room-due, after-due, turns-below}
 use Rattle.log.specs.Budget.{Consistent}
 use Rattle.log.proofs.Spent.{new-consistent}
 use Rattle.answer.specs.declared.Refusal.the-variants as refusal

@@ -21,7 +21,7 @@ use Rattle.mask.specs.Marks.{maxMarks}
 use Rattle.entry.specs.Answer.{scanOf}
 use Rattle.image.specs.declared.Summary.{Summary}
 use Rattle.image.specs.Answer.{noSummary, viewsIn}
-use Rattle.image.specs.Live.{liveFlagsIn}
+use Rattle.live.specs.Live.{liveFlagsIn}
 use Rattle.image.proofs.Sectors.{views-count}
 use Rattle.image.proofs.EntryBlocks.{entries-noted}
 use Rattle.log.specs.Budget.{Did}

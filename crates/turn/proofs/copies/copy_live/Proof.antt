@@ -15,7 +15,7 @@ use Rattle.layout.specs.Geometry.{blocksOf, sectorsOf}
 use Rattle.mask.specs.Marks.{maxMarks}
 use Rattle.mask.proofs.Padded.{padded-at}
 use Rattle.image.specs.Answer.{viewsIn}
-use Rattle.image.specs.Live.{liveFlagsIn}
+use Rattle.live.specs.Live.{liveFlagsIn}
 use Rattle.image.proofs.EntryBlocks.{entries-few}
 use Rattle.log.proofs.Laws.{did-backs}
 use Rattle.turn.proofs.Gathering.{Copying, copying-none, copying-end, gathered, copying-passed, still-here, live-valued, live-within, copying-cut, copying-more}
