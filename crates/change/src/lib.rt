@@ -31,20 +31,20 @@ fn turns(
     g: Geometry,
     sectors: [Summary; Geometry::MAX_SECTORS],
     w: Sector,
-    count: usize,
+    turn_count: usize,
     budget: Budget,
 ) -> Moved
     requires { ⌜ Backs g (now image) ⌝ }
     requires { ⌜ Ready g (now image) sectors (sectorNo w) ⌝ }
     requires { ⌜ Consistent budget ⌝ }
-    ensures did { λ r. ⌜ Did g (now (image .entry)) (stores.turns (blocksOf g) (sectorsOf g) count (sectorNo w) (imageOf (blocksOf g) (sectorsOf g) (now (image .entry)))) budget (now (image .exit)) (r .budget) ⌝ }
+    ensures did { λ r. ⌜ Did g (now (image .entry)) (stores.turns (blocksOf g) (sectorsOf g) «turn_count» (sectorNo w) (imageOf (blocksOf g) (sectorsOf g) (now (image .entry)))) budget (now (image .exit)) (r .budget) ⌝ }
     ensures ready { λ r. ⌜ (r .budget .cut ≡ false → Ready g (now (image .exit)) (r .sectors) (sectorNo (r .working))) ⌝ }
-    ensures working { λ r. ⌜ (r .budget .cut ≡ false → sectorNo (r .working) ≡ stores.moved (sectorsOf g) count (sectorNo w)) ⌝ }
+    ensures working { λ r. ⌜ (r .budget .cut ≡ false → sectorNo (r .working) ≡ stores.moved (sectorsOf g) «turn_count» (sectorNo w)) ⌝ }
 {
     let mut left = budget;
     let mut all = sectors;
     let mut working = w;
-    let mut due = count;
+    let mut due = turn_count;
     while 0 < due {
         let turned = turn::turn(image, g, all, working, left);
         left = turned.budget;
@@ -72,7 +72,7 @@ pub fn write(
     g: Geometry,
     sectors: [Summary; Geometry::MAX_SECTORS],
     w: Sector,
-    count: usize,
+    turn_count: usize,
     id: u32,
     value: &[u8],
     budget: Budget,
@@ -80,10 +80,10 @@ pub fn write(
     requires { ⌜ Backs g (now image) ⌝ }
     requires { ⌜ Ready g (now image) sectors (sectorNo w) ⌝ }
     requires { ⌜ Consistent budget ⌝ }
-    requires { ⌜ stores.leastTurns (rule.needOf (rule.value id (length (now value)))) (blocksOf g - keptFromValues) (sectorNo w) (viewsIn g (now image)) ≡ some count ⌝ }
-    ensures { λ r. ⌜ Did g (now (image .entry)) (stores.change (blocksOf g) (sectorsOf g) count (sectorNo w) (stores.valueEntry id (now (value .entry))) (imageOf (blocksOf g) (sectorsOf g) (now (image .entry)))) budget (now (image .exit)) r ⌝ }
+    requires { ⌜ stores.leastTurns (rule.needOf (rule.value id (length (now value)))) (blocksOf g - keptFromValues) (sectorNo w) (viewsIn g (now image)) ≡ some «turn_count» ⌝ }
+    ensures { λ r. ⌜ Did g (now (image .entry)) (stores.change (blocksOf g) (sectorsOf g) «turn_count» (sectorNo w) (stores.valueEntry id (now (value .entry))) (imageOf (blocksOf g) (sectorsOf g) (now (image .entry)))) budget (now (image .exit)) r ⌝ }
 {
-    let moved = turns(image, g, sectors, w, count, budget);
+    let moved = turns(image, g, sectors, w, turn_count, budget);
     let left = moved.budget;
     if left.cut {
         return left;
@@ -106,17 +106,17 @@ pub fn delete(
     g: Geometry,
     sectors: [Summary; Geometry::MAX_SECTORS],
     w: Sector,
-    count: usize,
+    turn_count: usize,
     id: u32,
     budget: Budget,
 ) -> Budget
     requires { ⌜ Backs g (now image) ⌝ }
     requires { ⌜ Ready g (now image) sectors (sectorNo w) ⌝ }
     requires { ⌜ Consistent budget ⌝ }
-    requires { ⌜ stores.leastTurns (rule.needOf (rule.deletion id)) (blocksOf g - keptFromDeletions) (sectorNo w) (viewsIn g (now image)) ≡ some count ⌝ }
-    ensures { λ r. ⌜ Did g (now (image .entry)) (stores.change (blocksOf g) (sectorsOf g) count (sectorNo w) (stores.deletionEntry id) (imageOf (blocksOf g) (sectorsOf g) (now (image .entry)))) budget (now (image .exit)) r ⌝ }
+    requires { ⌜ stores.leastTurns (rule.needOf (rule.deletion id)) (blocksOf g - keptFromDeletions) (sectorNo w) (viewsIn g (now image)) ≡ some «turn_count» ⌝ }
+    ensures { λ r. ⌜ Did g (now (image .entry)) (stores.change (blocksOf g) (sectorsOf g) «turn_count» (sectorNo w) (stores.deletionEntry id) (imageOf (blocksOf g) (sectorsOf g) (now (image .entry)))) budget (now (image .exit)) r ⌝ }
 {
-    let moved = turns(image, g, sectors, w, count, budget);
+    let moved = turns(image, g, sectors, w, turn_count, budget);
     let left = moved.budget;
     if left.cut {
         return left;

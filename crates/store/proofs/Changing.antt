@@ -22,7 +22,7 @@ use Rattle.image.specs.Answer.{viewsIn}
 use Rattle.append.proofs.Appending.{blocksIn}
 use Rattle.answer.specs.declared.Refusal.{Refusal}
 use Rattle.answer.specs.Answer.{refusalOf}
-use Rattle.rest.proofs.Changing.{writing, valueByState, write-by-state, deleting, deletionByState, delete-by-state}
+use Rattle.at_rest.proofs.Changing.{writing, valueByState, write-by-state, deleting, deletionByState, delete-by-state}
 use Rattle.store.specs.declared.Open.the-variants as opened
 use Rattle.store.specs.State.{openAs}
 use Rattle.store.proofs.Sizes.{at-illegal, at-legal, not-in-rest}

@@ -17,7 +17,7 @@ use Rattle.layout.specs.Geometry.{blocksOf, sectorsOf, sizesOf}
 use Rattle.image.specs.Answer.{viewsIn}
 use Rattle.answer.specs.declared.Refusal.{Refusal}
 use Rattle.answer.specs.Answer.{refusalOf}
-use Rattle.rest.proofs.Changing.{in-rest}
+use Rattle.at_rest.proofs.Changing.{in-rest}
 use Rattle.store.specs.declared.Open.the-variants as opened
 use Rattle.store.specs.State.{openAs}
 use Rattle.store.proofs.Sizes.{at-illegal, at-legal, not-in-rest}

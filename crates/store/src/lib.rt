@@ -28,18 +28,6 @@ enum Begun {
     NoStore,
 }
 
-// Read, write and delete are answered at rest only.
-fn open_sector(status: Status) -> Open
-    ensures { λ r. ⌜ r ≡ openAs (statusOf status) ⌝ }
-{
-    match status {
-        Status::Rest(w) => Open::Working(w),
-        Status::NotReopened(_) => Open::Refused(Refusal::Unfinished),
-        Status::MidTurn(_) => Open::Refused(Refusal::Unfinished),
-        Status::NoStore => Open::Refused(Refusal::NoStore),
-    }
-}
-
 // Makes an empty store of whatever bytes the image holds.
 pub fn format(image: &mut [u8], sector_size: usize, count: usize, allowance: u32) -> Outcome
     ensures { λ r. ⌜ Leaves «sector_size» (rule.formatDue «sector_size» count (now (image .entry))) allowance (now (image .entry)) (now (image .exit)) r ⌝ }
@@ -79,6 +67,18 @@ pub fn mount(image: &mut [u8], sector_size: usize, count: usize, allowance: u32)
     Outcome::ended(allowance, budget, turns)
 }
 
+// Read, write and delete are answered at rest only.
+fn open_sector(status: Status) -> Open
+    ensures { λ r. ⌜ r ≡ openAs (statusOf status) ⌝ }
+{
+    match status {
+        Status::Rest(w) => Open::Working(w),
+        Status::NotReopened(_) => Open::Refused(Refusal::Unfinished),
+        Status::MidTurn(_) => Open::Refused(Refusal::Unfinished),
+        Status::NoStore => Open::Refused(Refusal::NoStore),
+    }
+}
+
 // Copies the value of an ID into the first bytes of the buffer, and leaves the rest of it. A refused read leaves all of it.
 pub fn read(image: &[u8], sector_size: usize, count: usize, id: u32, buffer: &mut [u8]) -> Reply
     ensures answer { λ r. ⌜ replyNumbersOf r ≡ rule.replyNumbers (rule.read «sector_size» count (now (image .entry)) id (length (now (buffer .entry)))) ⌝ }
@@ -94,7 +94,7 @@ pub fn read(image: &[u8], sector_size: usize, count: usize, id: u32, buffer: &mu
     let status = survey.status;
     let sectors = survey.sectors;
     match open_sector(status) {
-        Open::Working(w) => rest::read(image, g, sectors, w, id, buffer),
+        Open::Working(w) => at_rest::read(image, g, sectors, w, id, buffer),
         Open::Refused(refusal) => Reply::Refused(refusal),
     }
 }
@@ -127,7 +127,7 @@ pub fn write(
     let status = survey.status;
     let sectors = survey.sectors;
     match open_sector(status) {
-        Open::Working(w) => rest::write(image, g, sectors, w, id, value, need, allowance),
+        Open::Working(w) => at_rest::write(image, g, sectors, w, id, value, need, allowance),
         Open::Refused(refusal) => Outcome::refused(refusal),
     }
 }
@@ -152,7 +152,7 @@ pub fn delete(
     let status = survey.status;
     let sectors = survey.sectors;
     match open_sector(status) {
-        Open::Working(w) => rest::delete(image, g, sectors, w, id, allowance),
+        Open::Working(w) => at_rest::delete(image, g, sectors, w, id, allowance),
         Open::Refused(refusal) => Outcome::refused(refusal),
     }
 }

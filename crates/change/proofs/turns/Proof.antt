@@ -26,11 +26,11 @@ abbrev μ-loop : tie.MeasureT-loop
 -- in a turn at least one is due
 begun : (c : tie.In-loop Inv-loop μ-loop) → let k = c .before .before .before in
     let l = c .before .loop in
-    Turning (k .args .g) (sectorNo (k .args .w)) (k .args .count) (k .args .image .now) (k .args .budget) (l .image) (l .left) (l .all) (sectorNo (l .working)) (suc (l .due - 1))
+    Turning (k .args .g) (sectorNo (k .args .w)) (k .args .turn-count) (k .args .image .now) (k .args .budget) (l .image) (l .left) (l .all) (sectorNo (l .working)) (suc (l .due - 1))
 begun c =
     let k = c .before .before .before in
     let l = c .before .loop in
-    subst (Turning (k .args .g) (sectorNo (k .args .w)) (k .args .count) (k .args .image .now) (k .args .budget) (l .image) (l .left) (l .all) (sectorNo (l .working)))
+    subst (Turning (k .args .g) (sectorNo (k .args .w)) (k .args .turn-count) (k .args .image .now) (k .args .budget) (l .image) (l .left) (l .all) (sectorNo (l .working)))
     (omega (arith, c .loop-test .taken)) (l .inv)
 
 loop-holds : tie.Need-loop-holds Inv-loop μ-loop
@@ -38,7 +38,7 @@ loop-holds c =
     let k = c .before in
     let typed = at-each (λ b. b < 256) 0 (k .args .image .now) (λ i h. omega (arith, c .slice-known .given i)) in
     let whole = image-of-bytes (blocksOf (k .args .g)) (sectorsOf (k .args .g)) (k .args .image .now) typed (k .pre .0 .sized) in
-    turning-none (k .args .g) (sectorNo (k .args .w)) (k .args .count) (k .args .image .now) (k .args .budget) (k .pre .0) whole (k .pre .1 .1) (k .pre .1 .0)
+    turning-none (k .args .g) (sectorNo (k .args .w)) (k .args .turn-count) (k .args .image .now) (k .args .budget) (k .pre .0) whole (k .pre .1 .1) (k .pre .1 .0)
 
 turn-requires : tie.Need-turn-requires Inv-loop μ-loop
 turn-requires c κs =
@@ -58,7 +58,7 @@ returns : tie.Need-returns Inv-loop μ-loop
 returns c =
     let t = c .before .before .before .before .before in
     let k = t .before .before .before .before .before in (
-      turning-cut (k .args .g) (sectorNo (k .args .w)) (k .args .count) (k .args .image .now) (k .args .budget) (begun (t .before .before)) (t .turn .ensures) (c .if1 .taken),
+      turning-cut (k .args .g) (sectorNo (k .args .w)) (k .args .turn-count) (k .args .image .now) (k .args .budget) (begun (t .before .before)) (t .turn .ensures) (c .if1 .taken),
       ((λ whole. absurd (false≢true (sym whole ∙ c .if1 .taken))), (λ whole. absurd (false≢true (sym whole ∙ c .if1 .taken)))),
     )
 
@@ -79,9 +79,9 @@ loop-again : tie.Need-loop-again Inv-loop μ-loop
 loop-again c =
     let t = c .before .before .before .before .before .before in
     let k = t .before .before .before .before .before in
-    subst (λ (s : ℕ). Turning (k .args .g) (sectorNo (k .args .w)) (k .args .count) (k .args .image .now) (k .args .budget) (t .turn .last .0) (t .turn .result .budget) (t .turn .result .sectors) s (t .before .before .before .loop .due - 1))
+    subst (λ (s : ℕ). Turning (k .args .g) (sectorNo (k .args .w)) (k .args .turn-count) (k .args .image .now) (k .args .budget) (t .turn .last .0) (t .turn .result .budget) (t .turn .result .sectors) s (t .before .before .before .loop .due - 1))
     (sym (c .next-sector .ensures))
-    (turning-more (k .args .g) (sectorNo (k .args .w)) (k .args .count) (k .args .image .now) (k .args .budget) (begun (t .before .before)) (t .turn .ensures) (c .before .if1 .left))
+    (turning-more (k .args .g) (sectorNo (k .args .w)) (k .args .turn-count) (k .args .image .now) (k .args .budget) (begun (t .before .before)) (t .turn .ensures) (c .before .if1 .left))
 
 same-length-2 : tie.Need-same-length-2 Inv-loop μ-loop
 same-length-2 c = c .before .loop .inv .backs .sized ∙ sym (c .before .before .before .pre .0 .sized)
@@ -92,8 +92,8 @@ returns-2 c =
     let l = c .before .loop in
     let k = c .before .before .before in
     let none : l .due ≡ 0 = omega (arith, c .loop-test .left) in
-    let ended = subst (Turning (k .args .g) (sectorNo (k .args .w)) (k .args .count) (k .args .image .now) (k .args .budget) (l .image) (l .left) (l .all) (sectorNo (l .working))) none (l .inv) in (
-      turning-end (k .args .g) (sectorNo (k .args .w)) (k .args .count) (k .args .image .now) (k .args .budget) ended,
+    let ended = subst (Turning (k .args .g) (sectorNo (k .args .w)) (k .args .turn-count) (k .args .image .now) (k .args .budget) (l .image) (l .left) (l .all) (sectorNo (l .working))) none (l .inv) in (
+      turning-end (k .args .g) (sectorNo (k .args .w)) (k .args .turn-count) (k .args .image .now) (k .args .budget) ended,
       ((λ whole. ended .ready), (λ whole. ended .onward)),
     )
 

@@ -51,7 +51,7 @@ returns : tie.Need-returns
 returns c =
     let d = c .before .before .before .before in
     let k = d .before .before .before .before in
-    change-cut (k .args .g) (k .args .image .now) (sectorNo (k .args .w)) (k .args .count) (valueEntry (k .args .id) (k .args .value .now)) (k .pre .1 .1 .0) (d .turns .ensures .0) (c .if1 .taken)
+    change-cut (k .args .g) (k .args .image .now) (sectorNo (k .args .w)) (k .args .turn-count) (valueEntry (k .args .id) (k .args .value .now)) (k .pre .1 .1 .0) (d .turns .ensures .0) (c .if1 .taken)
 
 number-requires : tie.Need-number-requires
 number-requires c κs = search needs
@@ -74,7 +74,7 @@ append-value-requires c κs =
     let here = d .turns .ensures .1 .1 (i .if1 .left) in
     let summary = getD (d .turns .result .sectors) (n .number .result) noSummary in
     let room =
-    room-left (k .args .g) (k .args .image .now) (sectorNo (k .args .w)) (k .args .count) (k .pre .0) (typed d) (k .pre .1 .0 .rest) did (i .if1 .left) here
+    room-left (k .args .g) (k .args .image .now) (sectorNo (k .args .w)) (k .args .turn-count) (k .pre .0) (typed d) (k .pre .1 .0 .rest) did (i .if1 .left) here
     (needOf (value (k .args .id) (length (k .args .value .now)))) (B - keptFromValues) (k .pre .1 .1 .1) (known n) in (
       did-backs did (k .pre .0),
       (
@@ -93,7 +93,7 @@ returns-2 c =
     let i = n .before .before in
     let d = i .before .before .before .before in
     let k = d .before .before .before .before in
-    change-did (k .args .g) (k .args .image .now) (sectorNo (k .args .w)) (k .args .count) (k .pre .0) (typed d) (k .pre .1 .0 .rest) (d .turns .ensures .0) (i .if1 .left)
+    change-did (k .args .g) (k .args .image .now) (sectorNo (k .args .w)) (k .args .turn-count) (k .pre .0) (typed d) (k .pre .1 .0 .rest) (d .turns .ensures .0) (i .if1 .left)
     (d .turns .ensures .1 .1 (i .if1 .left)) (valueEntry (k .args .id) (k .args .value .now)) (a .append-value .ensures)
 
 pub write-spec : {M : Type 1} → statement M

@@ -16,7 +16,7 @@ use Rattle.answer.specs.Answer.{refusalOf, Leaves}
 use Rattle.store.specs.State.{openAs}
 use Rattle.store.proofs.Sizes.{open-working}
 use Rattle.answer.proofs.Leaving.{leaves-refused, leaves-given}
-use Rattle.rest.proofs.Changing.{delete-reserved}
+use Rattle.at_rest.proofs.Changing.{delete-reserved}
 use Rattle.store.proofs.Changing.{delete-illegal, delete-legal, delete-unready}
 use Rattle.store.proofs.delete.Statement.{statement}
 use Rattle.store.proofs.delete.Tie as tie

@@ -21,7 +21,7 @@ use Rattle.answer.specs.Answer.{refusalOf, refusalAs, replyAs, replyNumbersOf}
 use Rattle.store.specs.State.{openAs}
 use Rattle.store.proofs.Sizes.{open-working}
 use Rattle.answer.proofs.Told.{numbers-as}
-use Rattle.rest.proofs.Reading.{both}
+use Rattle.at_rest.proofs.Reading.{both}
 use Rattle.store.proofs.Reading.{read-illegal, read-reserved, read-rest, read-unready}
 use Rattle.store.proofs.read.Statement.{statement}
 use Rattle.store.proofs.read.Tie as tie

@@ -21,7 +21,7 @@ use Rattle.answer.specs.Answer.{refusalOf, Leaves}
 use Rattle.store.specs.State.{openAs}
 use Rattle.store.proofs.Sizes.{open-working}
 use Rattle.answer.proofs.Leaving.{leaves-refused, leaves-given}
-use Rattle.rest.proofs.Changing.{write-reserved, write-empty, write-too-long}
+use Rattle.at_rest.proofs.Changing.{write-reserved, write-empty, write-too-long}
 use Rattle.store.proofs.Changing.{few-blocks, write-illegal, write-legal, write-unready}
 use Rattle.store.proofs.write.Statement.{statement}
 use Rattle.store.proofs.write.Tie as tie

@@ -18,9 +18,9 @@ use Rattle.search.specs.Value.{passes}
 use Rattle.search.proofs.Valued.{Holds, found-value, found-nothing}
 use Rattle.answer.specs.declared.Reply.the-variants as reply
 use Rattle.answer.specs.Answer.{replyAs, refusalAs}
-use Rattle.rest.proofs.Reading.{both, reply-absent, reply-short, reply-bad, reply-found, buffer-found}
-use Rattle.rest.proofs.read.Statement.{statement}
-use Rattle.rest.proofs.read.Tie as tie
+use Rattle.at_rest.proofs.Reading.{both, reply-absent, reply-short, reply-bad, reply-found, buffer-found}
+use Rattle.at_rest.proofs.read.Statement.{statement}
+use Rattle.at_rest.proofs.read.Tie as tie
 
 -- the value that is found
 held : (c : tie.After-known-told)

@@ -21,9 +21,9 @@ use Rattle.log.proofs.Spent.{new-consistent}
 use Rattle.answer.specs.declared.Refusal.the-variants as refusal
 use Rattle.answer.specs.Answer.{refusalOf, Leaves}
 use Rattle.answer.proofs.Leaving.{left-within, leaves-made, leaves-refused, own-size}
-use Rattle.rest.proofs.Changing.{delete-absent, delete-rest}
-use Rattle.rest.proofs.delete.Statement.{statement}
-use Rattle.rest.proofs.delete.Tie as tie
+use Rattle.at_rest.proofs.Changing.{delete-absent, delete-rest}
+use Rattle.at_rest.proofs.delete.Statement.{statement}
+use Rattle.at_rest.proofs.delete.Tie as tie
 
 -- the ID has a value, so there is a deletion to make
 due : (c : tie.After-enum-told) → let k = c .before .before .before .before .before in

@@ -21,9 +21,9 @@ use Rattle.log.proofs.Spent.{new-consistent}
 use Rattle.answer.specs.declared.Refusal.the-variants as refusal
 use Rattle.answer.specs.Answer.{refusalOf, Leaves}
 use Rattle.answer.proofs.Leaving.{left-within, leaves-made, leaves-refused, own-size}
-use Rattle.rest.proofs.Changing.{write-rest}
-use Rattle.rest.proofs.write.Statement.{statement}
-use Rattle.rest.proofs.write.Tie as tie
+use Rattle.at_rest.proofs.Changing.{write-rest}
+use Rattle.at_rest.proofs.write.Statement.{statement}
+use Rattle.at_rest.proofs.write.Tie as tie
 
 -- what is left of the rule
 due : (k : tie.Start)
