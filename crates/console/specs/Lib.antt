@@ -1,0 +1,2 @@
+-- What the commands of the driver are due.
+pub mod Due
