@@ -1,5 +1,5 @@
 -- Demand 1: each call has one outcome, and a refusal leaves the image and the buffer.
-use mathlib.Core.Path.{_≡_, refl, sym, ap, _∙_}
+use mathlib.Core.Path.{_≡_, refl, sym, ap, subst, _∙_}
 use mathlib.Core.List.{List, []}
 use Prim.Native.Nat.{ℕ, _/_}
 use native.Mathlib.Omega.{arith}
@@ -10,18 +10,19 @@ use Rattle.rules.specs.Ground.{blockSize}
 use Rattle.rules.specs.Stores.{Store, applyBytes}
 use Rattle.rules.specs.Calls as rule
 use Rattle.rules.specs.Calls.{Due, refuse, make, answerNumbers, replyNumbers}
-use Rattle.rules.specs.Demands.{gives}
+use Rattle.rules.specs.Demands as rules
+use Rattle.rules.specs.Demands.{AreBytes, Call, Typed, due, FewDiffer, gives}
 use Rattle.rules.proofs.Basics.Notation.{by-test}
 use Rattle.rules.proofs.Due.Calls.{answer-whole, answer-cut, made-make}
-use Rattle.rules.proofs.Crash.Pinned.{number-leaves, number-buffer, made-few}
+use Rattle.rules.proofs.Crash.Pinned.{number-leaves, number-buffer, format-few, call-few}
 use Rattle.log.specs.declared.Last.the-variants as last
 use Rattle.log.specs.Budget.{lastOf}
 use Rattle.answer.specs.declared.Outcome.{Outcome}
 use Rattle.answer.specs.Answer.{Leaves, replyNumbersOf}
-use Rattle.acceptance.specs.Runs.{Place}
+use Rattle.acceptance.specs.Runs.{Address}
 use Rattle.acceptance.specs.Demands.{told, Storing, IsCut, Pinned, PinnedRead, Demand1}
 use Rattle.acceptance.proofs.Numbers.{refusal-most, same-answer, same-reply, some-answer, some-reply}
-use Rattle.acceptance.proofs.Steps.{same-number}
+use Rattle.acceptance.proofs.Steps.{none-allowed, same-number}
 
 -- an answer 11 is a cut, and the other way round
 cut-is : (what : Due) (a : ℕ) → answerNumbers (rule.answer what a) .number ≡ 11 → IsCut what a
@@ -65,15 +66,18 @@ module _ {size : ℕ} {due : List ℕ → Due} {run : Storing}
             let l = met before a after r x in
             let same : told r .number ≡ answerNumbers (rule.answer (due before) a) .number = same-number l in
             l .image ∙ number-leaves size (due before) a before (λ e. omega arith) (λ e. omega arith);
-        few = λ {before} {a} {after} {r} x. (rule.made (due before) a, made-few (due before) a, met before a after r x .image);
         cut = λ {before} {a} {after} {r} x.
             let same : told r .number ≡ answerNumbers (rule.answer (due before) a) .number = same-number (met before a after r x) in
             ((λ e. cut-is (due before) a (sym same ∙ e)), (λ c. same ∙ ap (λ (n : rule.Numbers). n .number) (is-cut a c)));
         cutAfter = λ {before} {a} {after} {r} x c. let l = met before a after r x in (l .numbers ∙ is-cut a c, l .image ∙ cut-leaves size a before c);
       }
 
--- any place will do
-somewhere : Place
+-- a run changes few blocks, as the rules say
+runs-few : (size count : ℕ) (call : Call) → Typed call → {a : ℕ} {before after : List ℕ} {r : Outcome} → Leaves size (due size count before call) a before after r → AreBytes before → FewDiffer a before after
+runs-few size count call typed {a} {before} l bytes = subst (FewDiffer a before) (sym (l .image)) (call-few size count before call a bytes typed)
+
+-- any address will do
+somewhere : Address
 somewhere = record { ptr = (0, 0); name = 0 }
 
 pinned-read : (size count id : ℕ) → PinnedRead size count id
@@ -82,17 +86,19 @@ pinned-read size count id =
       answered = λ image buffer.
           let found = rule.read size count image id (length buffer) in
           let (x, e) = some-reply found in
-          (rule.bufferAfter found buffer, x, record { lifetimes = ([], ([], tt)); source = somewhere; target = somewhere; meets = (e, refl) });
+          (rule.bufferAfter found buffer, x, record { lifetimes = ([], ([], tt)); source = somewhere; target = somewhere; imageAfter = image; meets = (e, (refl, refl)) });
       alike = λ {image} {buffer} {after} {after′} {reply} {reply′} x y.
-          (same-reply reply reply′ (x .meets .0 ∙ sym (y .meets .0)), x .meets .1 ∙ sym (y .meets .1));
+          (same-reply reply reply′ (x .meets .0 ∙ sym (y .meets .0)), x .meets .1 .0 ∙ sym (y .meets .1 .0));
       refused = λ {image} {buffer} {after} {reply} x from.
           let found = rule.read size count image id (length buffer) in
           let same : replyNumbersOf reply .number ≡ replyNumbers found .number = ap (λ (n : rule.Numbers). n .number) (x .meets .0) in
-          x .meets .1 ∙ number-buffer found buffer (λ e. omega arith);
+          x .meets .1 .0 ∙ number-buffer found buffer (λ e. omega arith);
+      untouched = λ x. x .meets .1 .1;
     }
 
 -- a run meets its call's contract, and what meets it is a run
 pub demand1 : Demand1
+unfolding due
 demand1 =
     record {
       asks = record {
@@ -107,4 +113,8 @@ demand1 =
       writes = λ size count id value. pinned (λ before a after r x. x .meets) (λ before a after r l. record { lifetimes = ([], ([], tt)); image = somewhere; source = somewhere; meets = l });
       deletes = λ size count id. pinned (λ before a after r x. x .meets) (λ before a after r l. record { lifetimes = ([], tt); image = somewhere; meets = l });
       reads = pinned-read;
+      formatFew = λ size count. record { few = λ {before} {a} bytes x. subst (FewDiffer a before) (sym (x .meets .image)) (format-few size count before a) };
+      mountFew = λ size count. record { few = λ bytes x. runs-few size count (rules.mount 0) (rules.mounts none-allowed) (x .meets) bytes };
+      writeFew = λ size count id value named typed. record { few = λ bytes x. runs-few size count (rules.write id value 0) (rules.writes named typed none-allowed) (x .meets) bytes };
+      deleteFew = λ size count id named. record { few = λ bytes x. runs-few size count (rules.delete id 0) (rules.deletes named none-allowed) (x .meets) bytes };
     }

@@ -10,13 +10,13 @@ use Rattle.rules.specs.Ground.{legalSizes, reservedId}
 use Rattle.rules.specs.Meaning.{atRest, stateOf, history, lookup}
 use Rattle.rules.specs.Calls as rule
 use Rattle.rules.specs.Calls.{Due, Numbers, replyNumbers}
-use Rattle.rules.specs.Demands as list
+use Rattle.rules.specs.Demands as rules
 use Rattle.rules.specs.Demands.{AreBytes, IsUser, IsReadBack, ReadBack, DeleteBack, due, budget, views}
 use Rattle.rules.proofs.Basics.Notation.{if-false}
 use Rattle.rules.proofs.Crash.Landed.{call-legal, rest-whole, rest-told}
 use Rattle.rules.proofs.Crash.Reads.{settled-read}
 use Rattle.rules.proofs.Crash.ReadBack.{read-back, delete-back}
-use Rattle.rules.proofs.Crash.TurnsShow.{MountTells, mount-turns-show}
+use Rattle.rules.proofs.Crash.TurnsShow.{mount-turns-show}
 use Rattle.answer.specs.declared.Outcome.{Outcome}
 use Rattle.answer.specs.declared.Reply.{Reply}
 use Rattle.answer.specs.Answer.{Leaves}
@@ -38,7 +38,7 @@ module _ {size count : ℕ} {before after : List ℕ} {id : ℕ} {entry : Option
         others = λ {other} {buffer} {left} {left′} {reply} {reply′} apart x y.
             let same = back .others other (length buffer) apart in (
               same-reply reply′ reply (y .meets .0 ∙ ap replyNumbers same ∙ sym (x .meets .0)),
-              y .meets .1 ∙ ap (λ (found : rule.Reply). rule.bufferAfter found buffer) same ∙ sym (x .meets .1),
+              y .meets .1 .0 ∙ ap (λ (found : rule.Reply). rule.bufferAfter found buffer) same ∙ sym (x .meets .1 .0),
             );
       }
 
@@ -57,7 +57,7 @@ module _ (size count : ℕ) (image : List ℕ) (typed : AreBytes image) (legal :
             let q = rest-told size count image typed legal w rests in
             let found : rule.read size count image id (length buffer) ≡ rule.readEntry (length buffer) (lookup id (history (atRest w) (views size count image))) =
             settled-read size count image legal (rest-whole size count image typed legal w rests) q id (length buffer) ∙ simp (ne-eqb id reservedId (user .1), if-false) in
-            (x .meets .0 ∙ ap replyNumbers found, x .meets .1 ∙ ap (λ (f : rule.Reply). rule.bufferAfter f buffer) found);
+            (x .meets .0 ∙ ap replyNumbers found, x .meets .1 .0 ∙ ap (λ (f : rule.Reply). rule.bufferAfter f buffer) found);
       }
 
 pub demand2 : Demand2
@@ -68,17 +68,16 @@ demand2 =
       mounts = λ size count. obeys (λ before a after r x. x .meets);
       writes = λ size count id value. obeys (λ before a after r x. x .meets);
       deletes = λ size count id. obeys (λ before a after r x. x .meets);
-      reads = λ size count id. record { answers = λ x. x .meets .0; fills = λ x. x .meets .1 };
+      reads = λ size count id. record { answers = λ x. x .meets .0; fills = λ x. x .meets .1 .0 };
       readBack = λ {size} {count} {id} {value} {before} {a} typed named bytes x zero′.
           reads-back (subst (λ (l : List ℕ). IsReadBack size count before l id (some value)) (sym (x .meets .image)) (read-back size count before id value a typed named bytes (sym (same-number (x .meets)) ∙ zero′)));
       deleteBack = λ {size} {count} {id} {before} {a} typed named x zero′.
           reads-back (subst (λ (l : List ℕ). IsReadBack size count before l id none) (sym (x .meets .image)) (delete-back size count before id a typed named (sym (same-number (x .meets)) ∙ zero′)));
       meaning = meaning;
-      mountTurns = λ size count. record { moves = λ {before} {a} bytes small rests x zero′. shown size count (list.mount a) (list.mounts small) (x .meets) bytes rests zero′ };
-      writeTurns = λ size count id value named typed. record { moves = λ {before} {a} bytes small rests x zero′. shown size count (list.write id value a) (list.writes named typed small) (x .meets) bytes rests zero′ };
-      deleteTurns = λ size count id named. record { moves = λ {before} {a} bytes small rests x zero′. shown size count (list.delete id a) (list.deletes named small) (x .meets) bytes rests zero′ };
+      mountTurns = λ size count. record { moves = λ {before} {a} bytes small rests x zero′. shown size count (rules.mount a) (rules.mounts small) (x .meets) bytes rests zero′ };
+      writeTurns = λ size count id value named typed. record { moves = λ {before} {a} bytes small rests x zero′. shown size count (rules.write id value a) (rules.writes named typed small) (x .meets) bytes rests zero′ };
+      deleteTurns = λ size count id named. record { moves = λ {before} {a} bytes small rests x zero′. shown size count (rules.delete id a) (rules.deletes named small) (x .meets) bytes rests zero′ };
       mountTells = λ {size} {count} {before} {state} {a} found x zero′.
           let lands = sym (same-number (x .meets)) ∙ zero′ in
-          subst (λ (n : Numbers). MountTells state (n .turns)) (sym (x .meets .numbers))
-          (mount-turns-show size count before a state (call-legal size count before a (list.mount a) lands) found lands);
+          ap (λ (n : Numbers). n .turns) (x .meets .numbers) ∙ mount-turns-show size count before a state (call-legal size count before a (rules.mount a) lands) found lands;
     }

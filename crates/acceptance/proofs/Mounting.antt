@@ -17,8 +17,8 @@ use Rattle.rules.specs.Meaning.{State, atRest, notReopened, midTurn, viewsOf, n
 use Rattle.rules.specs.Stores.{Store, apply, mount, reopen}
 use Rattle.rules.specs.Calls as rule
 use Rattle.rules.specs.Calls.{Due, refuse, make, noStore, answerNumbers, refusalNumber, answer, made, mountTurns, mountDue, leaves}
-use Rattle.rules.specs.Demands as list
-use Rattle.rules.specs.Demands.{AreBytes, IsBudget, due, views}
+use Rattle.rules.specs.Demands as rules
+use Rattle.rules.specs.Demands.{AreBytes, due, views}
 use Rattle.rules.proofs.Terms.{IsImage, IsAtomic, changed, reopenedView}
 use Rattle.rules.proofs.Basics.Notation.{by-test}
 use Rattle.rules.proofs.Basics.Parts.{each-take}
@@ -34,6 +34,7 @@ use Rattle.rules.proofs.Crash.Demand3.{mount-is}
 use Rattle.rules.proofs.Crash.Landed.{Lands, landed-enough}
 use Rattle.rules.proofs.Crash.Leaving.{Left, call-left}
 use Rattle.rules.proofs.Crash.Standing.{Stands, settled}
+use Rattle.acceptance.proofs.Steps.{none-allowed}
 
 -- what is made answers 0 or 11
 not-refused : (stores : List Store) (turns a : ℕ) → answerNumbers (answer (make stores turns) a) .number ≡ 2 → ⊥
@@ -42,10 +43,6 @@ not-refused stores turns a e =
     by-test (leb (length stores) a)
     (λ enough. let done : _≡_ {A = ℕ} 0 2 = sym (ap (λ (x : rule.Answer). answerNumbers x .number) (answer-whole stores turns a (leb-true (length stores) a enough))) ∙ e in omega arith)
     (λ short. let cut : _≡_ {A = ℕ} 11 2 = sym (ap (λ (x : rule.Answer). answerNumbers x .number) (answer-cut stores turns a (leb-false (length stores) a short))) ∙ e in omega arith)
-
-none-allowed : IsBudget 0
-unfolding IsBudget
-none-allowed = omega arith
 
 module _ (size count : ℕ) (image : List ℕ) (legal : legalSizes size count (length image) ≡ true) where
   abbrev B : ℕ
@@ -104,7 +101,7 @@ module _ (size count : ℕ) (image : List ℕ) (legal : legalSizes size count (l
     standing state is same =
         let T : ℕ → Option Entry = λ id. lookup id (history state vs) in
         let stands : Stands count T vs = record { sized = sized; state = state; is = state-is vs state is; matches = λ id. refl; matchesLater = λ id. ap (lookup id) same } in
-        let left : Left size count image (list.mount 0) a state T = call-left size count image legal whole (list.mount 0) a (list.mounts none-allowed) stands in
+        let left : Left size count image (rules.mount 0) a state T = call-left size count image legal whole (rules.mount 0) a (rules.mounts none-allowed) stands in
         ⊎-elim (λ t. (t .1 .settled .working, is-state (views size count after) (atRest (t .1 .settled .working)) (t .1 .settled .rests .is))) (λ t. absurd (t .0 lands)) (left .stood)
 
     -- Done, not reopened: one reopening, after which the successor is the spare.

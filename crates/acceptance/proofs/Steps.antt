@@ -3,12 +3,13 @@ use mathlib.Core.Path.{_≡_, sym, ap, subst₂, _∙_}
 use mathlib.Core.List.{List}
 use mathlib.Core.Option.{Option, some}
 use Prim.Native.Nat.{ℕ}
+use native.Mathlib.Omega.{arith}
 use Rattle.rules.specs.Meaning.{atRest, stateOf}
 use Rattle.rules.specs.Stores.{moved}
 use Rattle.rules.specs.Calls as rule
 use Rattle.rules.specs.Calls.{Due, Numbers, answerNumbers}
-use Rattle.rules.specs.Demands as list
-use Rattle.rules.specs.Demands.{Call, Typed, AreBytes, Model, due, budget, step, modelAfter, views, ReadsAs, TurnsShow}
+use Rattle.rules.specs.Demands as rules
+use Rattle.rules.specs.Demands.{Call, Typed, IsBudget, AreBytes, Model, due, budget, step, modelAfter, views, ReadsAs, TurnsShow}
 use Rattle.rules.proofs.Crash.TurnsShow.{turns-show}
 use Rattle.rules.proofs.Crash.Safe.{Safe, safe-call}
 use Rattle.answer.specs.declared.Outcome.{Outcome}
@@ -17,19 +18,24 @@ use Rattle.answer.specs.Answer.{Leaves, replyNumbersOf}
 use Rattle.acceptance.specs.Runs.{Reads}
 use Rattle.acceptance.specs.Demands.{told, Completes}
 
+-- the stores due of a call do not depend on its allowance, so that any will do
+pub none-allowed : IsBudget 0
+unfolding IsBudget
+none-allowed = omega arith
+
 -- the number that a run gave is the rules'
 pub same-number : {size : ℕ} {what : Due} {a : ℕ} {before after : List ℕ} {r : Outcome} → Leaves size what a before after r → told r .number ≡ answerNumbers (rule.answer what a) .number
 same-number l = ap (λ (n : Numbers). n .number) (l .numbers)
 
 -- a read, by what the rules say that the image holds
 pub reads-as : {size count : ℕ} {image : List ℕ} {id : ℕ} {entry : Option (List ℕ)} {buffer after : List ℕ} {reply : Reply}
-    → list.Reads size count image id entry → Reads size count image id buffer after reply → ReadsAs buffer entry (replyNumbersOf reply) after
-unfolding list.Reads
-reads-as {entry = entry} {buffer} held x = subst₂ (λ (n : Numbers) (l : List ℕ). ReadsAs buffer entry n l) (sym (x .meets .0)) (sym (x .meets .1)) (held buffer)
+    → rules.Reads size count image id entry → Reads size count image id buffer after reply → ReadsAs buffer entry (replyNumbersOf reply) after
+unfolding rules.Reads
+reads-as {entry = entry} {buffer} held x = subst₂ (λ (n : Numbers) (l : List ℕ). ReadsAs buffer entry n l) (sym (x .meets .0)) (sym (x .meets .1 .0)) (held buffer)
 
 -- a call that the rules do not refuse
 unfoldable pub completes : {what : Due} {most : ℕ} {run : ℕ → List ℕ → Outcome → Type 0}
-    → ((a : ℕ) (after : List ℕ) (r : Outcome) → run a after r → told r ≡ answerNumbers (rule.answer what a)) → list.Succeeds what most → Completes run most
+    → ((a : ℕ) (after : List ℕ) (r : Outcome) → run a after r → told r ≡ answerNumbers (rule.answer what a)) → rules.Succeeds what most → Completes run most
 completes numbers s =
     record {
       stores = s .stores;

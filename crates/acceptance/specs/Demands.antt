@@ -14,9 +14,8 @@ use Rattle.rules.specs.Meaning.{State, atRest, stateOf, history, lookup}
 use Rattle.rules.specs.Stores.{Store, applyBytes, moved}
 use Rattle.rules.specs.Calls as rule
 use Rattle.rules.specs.Calls.{Due, make, Numbers, answerNumbers, replyNumbers}
-use Rattle.rules.specs.Demands as list
-use Rattle.rules.specs.Demands.{Call, Typed, IsId, IsBudget, AreBytes, IsUser, Model, emptyModel, modelAfter, views, Matches, ReadsAs, gives, IsWritable, IsFull, IsStore}
-use Rattle.rules.proofs.Crash.TurnsShow.{MountTells}
+use Rattle.rules.specs.Demands as rules
+use Rattle.rules.specs.Demands.{Call, Typed, IsId, IsBudget, AreBytes, IsUser, Model, emptyModel, modelAfter, views, Matches, ReadsAs, gives, IsWritable, IsFull, IsStore, FewDiffer}
 use Rattle.log.specs.declared.Last.the-variants as last
 use Rattle.log.specs.Budget.{lastOf}
 use Rattle.answer.specs.declared.Outcome.{Outcome}
@@ -50,23 +49,25 @@ pub record Pinned (size : ℕ) (due : (before : List ℕ) → Due) (run : Storin
   -- "Numbers 1 to 10 are refusals": "nothing changed"
   pub refused : {before : List ℕ} {a : ℕ} {after : List ℕ} {r : Outcome}
       → run before a after r → 1 ≤ told r .number → told r .number ≤ 10 → after ≡ before
-  -- "at most one block may differ" on an allowance of 1: as many stores as allowed, at most, and each sets one block
-  pub few : {before : List ℕ} {a : ℕ} {after : List ℕ} {r : Outcome}
-      → run before a after r → (stores : List Store) × (length stores ≤ a) × (after ≡ applyBytes (size / blockSize) stores before)
   -- "11 is none": "the first allowed stores made; gives stores equal to the allowance, turns 0"
   pub cut : {before : List ℕ} {a : ℕ} {after : List ℕ} {r : Outcome}
       → run before a after r → (told r .number ≡ 11) ↔ IsCut (due before) a
   pub cutAfter : {before : List ℕ} {a : ℕ} {after : List ℕ} {r : Outcome} → run before a after r → (c : IsCut (due before) a)
       → (told r ≡ gives 11 a 0 0) × (after ≡ applyBytes (size / blockSize) (take a (c .stores)) before)
 
--- The same of a read: "the lent buffer after it".
+-- A call changes at most as many blocks as it was allowed stores.
+pub record ChangesFew (run : Storing) : Type 0 where
+  pub few : {before : List ℕ} {a : ℕ} {after : List ℕ} {r : Outcome} → AreBytes before → run before a after r → FewDiffer a before after
+
+-- What is pinned of a read: "the lent buffer after it".
 pub record PinnedRead (size count id : ℕ) : Type 0 where
   pub answered : (image buffer : List ℕ) → (after : List ℕ) × (reply : Reply) × Reads size count image id buffer after reply
   pub alike : {image buffer after after′ : List ℕ} {reply reply′ : Reply}
       → Reads size count image id buffer after reply → Reads size count image id buffer after′ reply′ → (reply ≡ reply′) × (after ≡ after′)
-  -- no number but 0 changes the buffer; the image is lent unchangeable
+  -- no number but 0 changes the buffer, and none the image
   pub refused : {image buffer after : List ℕ} {reply : Reply}
       → Reads size count image id buffer after reply → 1 ≤ replyNumbersOf reply .number → after ≡ buffer
+  pub untouched : {image buffer after : List ℕ} {reply : Reply} → (x : Reads size count image id buffer after reply) → x .imageAfter ≡ image
 
 pub record Demand1 : Type 0 where
   pub asks : AsksNothing
@@ -75,6 +76,10 @@ pub record Demand1 : Type 0 where
   pub writes : (size count id : ℕ) (value : List ℕ) → Pinned size (λ image. rule.writeDue size count image id value) (Writes size count id value)
   pub deletes : (size count id : ℕ) → Pinned size (λ image. rule.deleteDue size count image id) (Deletes size count id)
   pub reads : (size count id : ℕ) → PinnedRead size count id
+  pub formatFew : (size count : ℕ) → ChangesFew (Formats size count)
+  pub mountFew : (size count : ℕ) → ChangesFew (Mounts size count)
+  pub writeFew : (size count id : ℕ) (value : List ℕ) → IsId id → AreBytes value → ChangesFew (Writes size count id value)
+  pub deleteFew : (size count id : ℕ) → IsId id → ChangesFew (Deletes size count id)
 
 -- ---- Demand 2: the calls answer and change the image exactly as the rules say; what is written reads back; each image that
 -- mounts has one meaning.
@@ -139,25 +144,25 @@ pub record Demand2 : Type 0 where
   pub deleteTurns : (size count id : ℕ) → IsId id → ShowsTurns size count (Deletes size count id)
   -- "a mount gives 1 when it began mid-turn, else 0"
   pub mountTells : {size count : ℕ} {before : List ℕ} {state : State} {a : ℕ} {after : List ℕ} {r : Outcome}
-      → stateOf (views size count before) ≡ some state → Mounts size count before a after r → told r .number ≡ 0 → MountTells state (told r .turns)
+      → stateOf (views size count before) ≡ some state → Mounts size count before a after r → told r .number ≡ 0 → told r .turns ≡ rule.mountTurns state
 
 -- ---- Demand 3: "The plain book".
 
 -- "It starts after a format that gave 0, on whatever bytes"; "its list holds mounts, writes and deletes with any ID, value
 -- and allowance, at the format's sizes". The image and the book after the list: the book is "fed each call's arguments and
 -- its answer number, and nothing of the image".
-pub data History (size count : ℕ) : (image : List ℕ) → (book : Model) → Type 0 where
+pub data Reachable (size count : ℕ) : (image : List ℕ) → (book : Model) → Type 0 where
   formatted : {bytes : List ℕ} {a : ℕ} {image : List ℕ} {r : Outcome} → AreBytes bytes
-      → Formats size count bytes a image r → told r .number ≡ 0 → History size count image emptyModel
+      → Formats size count bytes a image r → told r .number ≡ 0 → Reachable size count image emptyModel
   mounted : {before : List ℕ} {book : Model} {a : ℕ} {after : List ℕ} {r : Outcome}
-      → IsBudget a → History size count before book
-      → Mounts size count before a after r → History size count after (modelAfter (list.mount a) (told r .number) book)
+      → IsBudget a → Reachable size count before book
+      → Mounts size count before a after r → Reachable size count after (modelAfter (rules.mount a) (told r .number) book)
   written : {before : List ℕ} {book : Model} {id : ℕ} {value : List ℕ} {a : ℕ} {after : List ℕ} {r : Outcome}
-      → IsId id → AreBytes value → IsBudget a → History size count before book
-      → Writes size count id value before a after r → History size count after (modelAfter (list.write id value a) (told r .number) book)
+      → IsId id → AreBytes value → IsBudget a → Reachable size count before book
+      → Writes size count id value before a after r → Reachable size count after (modelAfter (rules.write id value a) (told r .number) book)
   deleted : {before : List ℕ} {book : Model} {id a : ℕ} {after : List ℕ} {r : Outcome}
-      → IsId id → IsBudget a → History size count before book
-      → Deletes size count id before a after r → History size count after (modelAfter (list.delete id a) (told r .number) book)
+      → IsId id → IsBudget a → Reachable size count before book
+      → Deletes size count id before a after r → Reachable size count after (modelAfter (rules.delete id a) (told r .number) book)
 
 -- A call that is not refused, whatever the allowance: 0 and at most so many turns, "or 11 if cut". Some allowance is enough.
 pub record Completes (run : (allowance : ℕ) (after : List ℕ) (r : Outcome) → Type 0) (most : ℕ) : Type 0 where
@@ -197,11 +202,18 @@ pub record Holds (size count : ℕ) (image : List ℕ) (book : Model) : Type 0 w
 
 -- "It is a single claim about the list, not one for each call."
 unfoldable pub Demand3 : Type 0
-Demand3 = (size count : ℕ) (image : List ℕ) (book : Model) → History size count image book → Holds size count image book
+Demand3 = (size count : ℕ) (image : List ℕ) (book : Model) → Reachable size count image book → Holds size count image book
 
 -- There are such lists: bytes of legal sizes can be formatted, and each list can go on with any call.
 pub record Histories (size count : ℕ) : Type 0 where
   pub begins : (bytes : List ℕ) → AreBytes bytes → legalSizes size count (length bytes) ≡ true
-      → (image : List ℕ) × History size count image emptyModel
-  pub goesOn : {before : List ℕ} {book : Model} → History size count before book → (call : Call) → Typed call
-      → (after : List ℕ) × (number : ℕ) × History size count after (modelAfter call number book)
+      → (image : List ℕ) × Reachable size count image emptyModel
+  pub goesOn : {before : List ℕ} {book : Model} → Reachable size count before book → (call : Call) → Typed call
+      → (after : List ℕ) × (number : ℕ) × Reachable size count after (modelAfter call number book)
+
+-- All that is promised.
+pub record Accepted : Type 0 where
+  pub demand1 : Demand1
+  pub demand2 : Demand2
+  pub demand3 : Demand3
+  pub histories : (size count : ℕ) → Histories size count

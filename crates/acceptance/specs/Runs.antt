@@ -13,41 +13,42 @@ use Rattle.store.proofs.write.Reads as write
 use Rattle.store.proofs.delete.Reads as delete
 
 -- where a lent slice lies; no demand depends on it
-pub record Place : Type 0 where
+pub record Address : Type 0 where
   pub ptr : ℕ × ℕ
   pub name : ℕ
 
 -- the slice there, with these bytes
-abbrev pub lent : Place → List ℕ → RefT (List ℕ)
+abbrev pub lent : Address → List ℕ → RefT (List ℕ)
 lent p bytes = record { ptr = p .ptr; name = p .name; now = bytes }
 
 pub record Formats (size count : ℕ) (before : List ℕ) (allowance : ℕ) (after : List ℕ) (r : Outcome) : Type 0 where
   pub lifetimes : Lfts 1
-  pub image : Place
+  pub image : Address
   pub meets : format.Post lifetimes (lent image before, (size, (count, (allowance, tt)))) r (lent image after, (size, (count, (allowance, tt))))
 
 pub record Mounts (size count : ℕ) (before : List ℕ) (allowance : ℕ) (after : List ℕ) (r : Outcome) : Type 0 where
   pub lifetimes : Lfts 1
-  pub image : Place
+  pub image : Address
   pub meets : mount.Post lifetimes (lent image before, (size, (count, (allowance, tt)))) r (lent image after, (size, (count, (allowance, tt))))
 
 pub record Writes (size count id : ℕ) (value before : List ℕ) (allowance : ℕ) (after : List ℕ) (r : Outcome) : Type 0 where
   pub lifetimes : Lfts 2
-  pub image : Place
-  pub source : Place
+  pub image : Address
+  pub source : Address
   pub meets : write.Post lifetimes (lent image before, (size, (count, (id, (lent source value, (allowance, tt)))))) r (lent image after, (size, (count, (id, (lent source value, (allowance, tt))))))
 
 pub record Deletes (size count id : ℕ) (before : List ℕ) (allowance : ℕ) (after : List ℕ) (r : Outcome) : Type 0 where
   pub lifetimes : Lfts 1
-  pub image : Place
+  pub image : Address
   pub meets : delete.Post lifetimes (lent image before, (size, (count, (id, (allowance, tt))))) r (lent image after, (size, (count, (id, (allowance, tt)))))
 
--- The image of a read is lent by `&`: the same bytes stand there after it.
+-- The image of a read is lent by `&`; what stands there after it is the contract's to say.
 pub record Reads (size count : ℕ) (image : List ℕ) (id : ℕ) (buffer after : List ℕ) (reply : Reply) : Type 0 where
   pub lifetimes : Lfts 2
-  pub source : Place
-  pub target : Place
-  pub meets : read.Post lifetimes (lent source image, (size, (count, (id, (lent target buffer, tt))))) reply (lent source image, (size, (count, (id, (lent target after, tt)))))
+  pub source : Address
+  pub target : Address
+  pub imageAfter : List ℕ
+  pub meets : read.Post lifetimes (lent source image, (size, (count, (id, (lent target buffer, tt))))) reply (lent source imageAfter, (size, (count, (id, (lent target after, tt)))))
 
 -- What a caller must show before a call (`Reads.Asked`, the reading of its `requires`): nothing, so any request can be made.
 pub record AsksNothing : Type 0 where

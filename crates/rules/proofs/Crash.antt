@@ -8,6 +8,7 @@ pub mod Mounting
 pub mod Changing
 pub mod Effects
 pub mod Leaving
+pub mod Within
 pub mod Landed
 pub mod Reads
 pub mod Invariant

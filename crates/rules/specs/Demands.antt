@@ -6,7 +6,7 @@ use mathlib.Core.Logic.{_↔_}
 use mathlib.Core.Option.{Option, none, some}
 use Prim.Native.Nat.{ℕ, _+_, _-_, _/_, _<_, _≤_, _^_}
 use lib.Dec.{eqb}
-use lib.ListN.{length, drop}
+use lib.ListN.{length, getD, drop}
 use Rattle.rules.specs.Notation.{if_then_else_, Each}
 use Rattle.rules.specs.Ground.{imageOf, blockSize, reservedId, keptFromValues}
 use Rattle.rules.specs.Look.{value, needOf}
@@ -197,3 +197,11 @@ TurnsShow =
     → answerNumbers (answer (due size count image call) (budget call)) .number ≡ 0
     → stateOf (views size count (leaves size (due size count image call) (budget call) image))
     ≡ some (atRest (moved count (answerNumbers (answer (due size count image call) (budget call)) .turns) w))
+
+-- "at most one block may differ" on an allowance of 1: outside so many blocks, counted from the start of the image, every
+-- byte stands.
+pub record FewDiffer (a : ℕ) (before after : List ℕ) : Type 0 where
+  pub blocks : List ℕ
+  pub few : length blocks ≤ a
+  pub sized : length after ≡ length before
+  pub others : (i : ℕ) → Each (λ (b : ℕ). i / blockSize ≡ b → ⊥) blocks → getD after i 0 ≡ getD before i 0

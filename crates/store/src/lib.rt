@@ -83,6 +83,7 @@ fn open_sector(status: Status) -> Open
 pub fn read(image: &[u8], sector_size: usize, count: usize, id: u32, buffer: &mut [u8]) -> Reply
     ensures answer { λ r. ⌜ replyNumbersOf r ≡ rule.replyNumbers (rule.read «sector_size» count (now (image .entry)) id (length (now (buffer .entry)))) ⌝ }
     ensures buffer { λ r. ⌜ now (buffer .exit) ≡ rule.bufferAfter (rule.read «sector_size» count (now (image .entry)) id (length (now (buffer .entry)))) (now (buffer .entry)) ⌝ }
+    ensures image { λ r. ⌜ now (image .exit) ≡ now (image .entry) ⌝ }
 {
     let Sizes::Legal(g) = Geometry::new(sector_size, count, image.len()) else {
         return Reply::Refused(Refusal::Geometry);

@@ -20,7 +20,7 @@ returns : tie.Need-returns
 returns c =
     let t = c .before .before in
     let s = t .before .before .before .before in
-    (rw (s .read .ensures .0) at (t .tell-reply .ensures), s .read .ensures .1)
+    (rw (s .read .ensures .0) at (t .tell-reply .ensures), s .read .ensures .1 .0)
 
 pub gust-read-spec : {M : Type 1} → statement M
 gust-read-spec =

@@ -6,7 +6,7 @@ use Prim.Native.Nat.{ℕ, zero, suc, _+_, _-_, _≤_, _<_}
 use native.Mathlib.Nat.{le-of-suc-le-suc, not-suc-le-zero, add-suc, sub-zero, zero-sub, suc-sub-suc}
 use native.Mathlib.Omega.{arith}
 use lib.ListN.{length, getD, set, take, drop, length-drop, drop-of-length-le}
-use lib.Seq.{take-all, take-nil, drop-cons, sets, sets-eq, paste, take-length, length-take-le, take-take, take-set-le, drop-set-lt, take-set-lt, drop-set-add}
+use lib.Seq.{take-all, take-nil, drop-cons, sets, sets-eq, paste, take-length, length-take-le, take-take, take-set-le, drop-set-lt, take-set-lt, drop-set-add, getD-set-other}
 
 module _ {ℓ} {A : Type ℓ} where
   -- ---- a part of a part
@@ -67,6 +67,12 @@ module _ {ℓ} {A : Type ℓ} where
       ap (λ (j : ℕ). drop n (sets (set l (n + i) v) j vs)) (sym (add-suc n i))
       ∙ drop-sets-add n (set l (n + i) v) (suc i) vs
       ∙ ap (λ (r : List A). sets r (suc i) vs) (drop-set-add n l i v)
+
+  -- an element outside of the run stands
+  pub sets-stands : (l : List A) (i : ℕ) (vs : List A) (j : ℕ) (d : A) → (i ≤ j → j < i + length vs → ⊥) → getD (sets l i vs) j d ≡ getD l j d
+  sets-stands l i [] j d out = refl
+  sets-stands l i (v ∷ vs) j d out =
+      sets-stands (set l i v) (suc i) vs j d (λ from to. out (omega arith) (omega arith)) ∙ getD-set-other l i j v d (λ e. out (omega arith) (omega arith))
 
   -- a run of stores is a copy of the whole run
   pub sets-paste : (l : List A) (i : ℕ) (vs : List A) → i + length vs ≤ length l → sets l i vs ≡ paste l i vs (length vs)

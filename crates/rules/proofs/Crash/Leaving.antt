@@ -47,7 +47,7 @@ abbrev pub Stood : (S : ℕ) (state : State) (T T′ : ℕ → Option Entry) (nu
 Stood S state T T′ number turns vs = ((number ≡ 0) × SettledAt S T′ (worksAfter S turns state) vs) ⊎ ((number ≡ 0 → ⊥) × Stands S T vs)
 
 module _ (B S : ℕ) (im : Image) {state : State} {T T′ : ℕ → Option Entry} where
-  effect-inside : {what : Due} (a : ℕ) → Effect B S im state T T′ what → Each (IsInside B S) (made what a)
+  pub effect-inside : {what : Due} (a : ℕ) → Effect B S im state T T′ what → Each (IsInside B S) (made what a)
   unfolding made
   effect-inside a (refuses r) = Each.empty
   effect-inside a (makes plan turns g) = each-take a (g .inside)
@@ -76,7 +76,7 @@ lookup-after (mount a) T = T
 lookup-after (write id bytes a) T = updated (valueEntry id bytes) T
 lookup-after (delete id a) T = updated (deletionEntry id) T
 
-call-effect : (B S : ℕ) (im : Image) (T : ℕ → Option Entry) (call : Call) → 8 ≤ B → B ≤ 4096 → 2 ≤ S → IsImage B S im → Typed call → (s : Stands S T (viewsOf B im))
+pub call-effect : (B S : ℕ) (im : Image) (T : ℕ → Option Entry) (call : Call) → 8 ≤ B → B ≤ 4096 → 2 ≤ S → IsImage B S im → Typed call → (s : Stands S T (viewsOf B im))
     → Effect B S im (s .state) T (lookup-after call T) (dueOn B S im call)
 unfolding lookup-after dueOn IsId AreBytes
 call-effect B S im T (mount a) big most two ok typed s = mount-effect B S big most two T im ok s

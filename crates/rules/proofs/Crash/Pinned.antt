@@ -1,21 +1,27 @@
 -- "Nothing changed": a refusal leaves the image and the buffer; and a call changes at most as many blocks as it was allowed.
-use mathlib.Core.Path.{_≡_, refl, sym, ap, _∙_}
-use mathlib.Core.List.{List, [], _∷_, map}
+use mathlib.Core.Path.{_≡_, refl, _∙_}
+use mathlib.Core.List.{List, map}
 use mathlib.Core.Option.{some}
-use Prim.Native.Nat.{ℕ, zero, suc, _≤_, _<_}
+use Prim.Native.Nat.{ℕ, _+_, _*_, _/_, _≤_, _<_}
 use native.Mathlib.Omega.{arith}
 use lib.Dec.{leb}
-use lib.ListN.{length, getD, set, length-take, length-map}
-use lib.Seq.{getD-set-other}
+use lib.ListN.{length, getD, length-take, length-map}
+use lib.Seq.{sets}
 use borrow.Author.Tests.{lt-ltb}
 use Rattle.rules.specs.Notation.{Each, empty, each}
-use Rattle.rules.specs.Ground.{Block, Image, Sector, blockAt, store}
+use Rattle.rules.specs.Ground.{Block, blockSize, placeOf, storeBytes}
 use Rattle.rules.specs.Reading.{Entry}
 use Rattle.rules.specs.Meaning.{lengthIn}
-use Rattle.rules.specs.Stores.{Store, apply, applyBytes}
-use Rattle.rules.specs.Calls.{Refusal, shortBuffer, readEntry, Due, refuse, make, Reply, found, answer, answerNumbers, made, replyNumbers, bufferAfter, leaves}
+use Rattle.rules.specs.Stores.{Store, applyBytes}
+use Rattle.rules.specs.Calls.{Refusal, shortBuffer, readEntry, Due, refuse, make, Reply, found, answer, answerNumbers, made, replyNumbers, bufferAfter, leaves, formatDue}
+use Rattle.rules.specs.Demands.{Call, Typed, AreBytes, due, FewDiffer}
+use Rattle.rules.proofs.Terms.{IsInside}
 use Rattle.rules.proofs.Basics.Notation.{if-true, if-false, by-test}
+use Rattle.rules.proofs.Basics.Lists.{sets-stands}
+use Rattle.rules.proofs.Basics.Parts.{each-weaken}
 use Rattle.rules.proofs.Ring.Fits.{each-map}
+use Rattle.rules.proofs.Blocks.OnBytes.{length-stored}
+use Rattle.rules.proofs.Crash.Within.{format-within, call-within}
 
 -- ---- refusals
 
@@ -53,43 +59,40 @@ unfolding made
 made-few (refuse r) a = omega arith
 made-few (make stores turns) a = omega (arith, length-take a stores)
 
--- what holds of an element, and of the one that is set in its place, holds after the set
-kept {ℓ κ} : {A : Type ℓ} (P : A → Type κ) (l : List A) (i j : ℕ) (x d : A) → P (getD l j d) → (j ≡ i → P x) → P (getD (set l i x) j d)
-kept P [] i j x d old new = old
-kept P (y ∷ ys) zero zero x d old new = new refl
-kept P (y ∷ ys) zero (suc j) x d old new = old
-kept P (y ∷ ys) (suc i) zero x d old new = old
-kept P (y ∷ ys) (suc i) (suc j) x d old new = kept P ys i j x d old (λ e. new (ap suc e))
+-- a byte of another block stands
+store-stands : (B : ℕ) (bytes : List ℕ) (s b : ℕ) (block : Block) (i : ℕ) → length block ≡ blockSize → (i / blockSize ≡ s * B + b → ⊥)
+    → getD (storeBytes B bytes s b block) i 0 ≡ getD bytes i 0
+unfolding storeBytes placeOf
+store-stands B bytes s b block i sized apart = go (s * B + b) apart
+  where
+    go : (n : ℕ) → (i / blockSize ≡ n → ⊥) → getD (sets bytes (n * blockSize) block) i 0 ≡ getD bytes i 0
+    go n other = sets-stands bytes (n * blockSize) block i 0 (λ from to. other (omega arith))
 
--- a block's place
-abbrev pub Place : Type 0
-Place = ℕ × ℕ
+-- a block's number, counted from the start of the image
+abbrev pub blockIn : (B : ℕ) → Store → ℕ
+blockIn B st = st .sector * B + st .block
 
-abbrev pub placeIn : Store → Place
-placeIn st = (st .sector, st .block)
-
-store-stands : (im : Image) (s b : ℕ) (block : Block) (t c : ℕ) → ((t ≡ s) × (c ≡ b) → ⊥) → blockAt (store im s b block) t c ≡ blockAt im t c
-unfolding blockAt store
-store-stands im s b block t c apart =
-    kept (λ (sector : Sector). getD sector c [] ≡ getD (getD im t []) c []) im s t (set (getD im s []) b block) [] refl
-    (λ same. getD-set-other (getD im s []) b c block [] (λ e. apart (same, e)) ∙ ap (λ (n : ℕ). getD (getD im n []) c []) (sym same))
-
--- a block at whose place no store is stands
-pub block-stands : {ss : List Store} (im : Image) (s b : ℕ) → Each (λ (st : Store). (s ≡ st .sector) × (b ≡ st .block) → ⊥) ss → blockAt (apply ss im) s b ≡ blockAt im s b
-unfolding apply
-block-stands im s b empty = refl
-block-stands im s b (each {x = st} apart rest) = block-stands _ s b rest ∙ store-stands im (st .sector) (st .block) (st .bytes) s b apart
+stores-stand : (B : ℕ) {ss : List Store} (bytes : List ℕ) (i : ℕ) → Each (λ (st : Store). length (st .bytes) ≡ blockSize) ss → Each (λ (st : Store). i / blockSize ≡ blockIn B st → ⊥) ss
+    → getD (applyBytes B ss bytes) i 0 ≡ getD bytes i 0
+unfolding applyBytes
+stores-stand B bytes i empty empty = refl
+stores-stand B bytes i (each {x = st} whole wholes) (each apart rest) =
+    stores-stand B _ i wholes rest ∙ store-stands B bytes (st .sector) (st .block) (st .bytes) i whole apart
 
 -- So at most as many blocks differ as were allowed: all others stand.
-pub record FewDiffer (a : ℕ) (before after : Image) : Type 0 where
-  pub places : List Place
-  pub few : length places ≤ a
-  pub others : (s b : ℕ) → Each (λ (p : Place). (s ≡ p .0) × (b ≡ p .1) → ⊥) places → blockAt after s b ≡ blockAt before s b
-
-pub few-differ : (what : Due) (a : ℕ) (im : Image) → FewDiffer a im (apply (made what a) im)
-few-differ what a im =
+stores-few : (size count : ℕ) (what : Due) (a : ℕ) (bytes : List ℕ) → Each (IsInside (size / blockSize) count) (made what a) → FewDiffer a bytes (leaves size what a bytes)
+unfolding leaves
+stores-few size count what a bytes inside =
+    let B : ℕ = size / blockSize in
     record {
-      places = map placeIn (made what a);
-      few = omega (arith, length-map (made what a) placeIn, made-few what a);
-      others = λ s b apart. block-stands im s b (each-map (λ (p : Place). (s ≡ p .0) × (b ≡ p .1) → ⊥) placeIn (made what a) apart);
+      blocks = map (blockIn B) (made what a);
+      few = omega (arith, length-map (made what a) (blockIn B), made-few what a);
+      sized = length-stored B (made what a) bytes;
+      others = λ i apart. stores-stand B bytes i (each-weaken (λ st is. is .bytes .sized) inside) (each-map (λ (b : ℕ). i / blockSize ≡ b → ⊥) (blockIn B) (made what a) apart);
     }
+
+pub format-few : (size count : ℕ) (image : List ℕ) (a : ℕ) → FewDiffer a image (leaves size (formatDue size count image) a image)
+format-few size count image a = stores-few size count (formatDue size count image) a image (format-within size count image a)
+
+pub call-few : (size count : ℕ) (image : List ℕ) (call : Call) (a : ℕ) → AreBytes image → Typed call → FewDiffer a image (leaves size (due size count image call) a image)
+call-few size count image call a bytes typed = stores-few size count (due size count image call) a image (call-within size count image call a bytes typed)

@@ -1,12 +1,12 @@
 -- "Turns is how far the working sector moved round the ring; a mount gives 1 when it began mid-turn, else 0."
-use mathlib.Core.Path.{_≡_, refl, sym, ap, subst, _∙_}
+use mathlib.Core.Path.{_≡_, refl, ap, subst, _∙_}
 use mathlib.Core.Bool.{true}
 use mathlib.Core.List.{List}
 use mathlib.Core.Option.{some}
 use Prim.Native.Nat.{ℕ}
 use lib.ListN.{length}
 use Rattle.rules.specs.Ground.{legalSizes}
-use Rattle.rules.specs.Meaning.{State, atRest, notReopened, midTurn, Is, stateOf}
+use Rattle.rules.specs.Meaning.{State, atRest, Is, stateOf}
 use Rattle.rules.specs.Stores.{Store}
 use Rattle.rules.specs.Calls.{Answer, Due, make, answer, answerNumbers, mountTurns, mountDue}
 use Rattle.rules.specs.Demands.{budget, views, TurnsShow}
@@ -28,24 +28,10 @@ landed-turns : (stores : List Store) (turns a : ℕ) → Lands (make stores turn
 unfolding answerNumbers
 landed-turns stores turns a lands = ap (λ (x : Answer). answerNumbers x .turns) (answer-whole stores turns a (landed-enough a stores turns lands))
 
--- the turns of a mount, by how it began
-pub data MountTells : State → (turns : ℕ) → Type 0 where
-  fromRest : {w : ℕ} → MountTells (atRest w) 0
-  fromDone : {w : ℕ} → MountTells (notReopened w) 0
-  fromMidTurn : {u : ℕ} → MountTells (midTurn u) 1
-
-mount-tells : (state : State) → MountTells state (mountTurns state)
-unfolding mountTurns
-mount-tells (atRest w) = fromRest
-mount-tells (notReopened w) = fromDone
-mount-tells (midTurn u) = fromMidTurn
-
 -- of every store of legal sizes, reachable or not
 pub mount-turns-show : (size count : ℕ) (image : List ℕ) (a : ℕ) (state : State) → legalSizes size count (length image) ≡ true → stateOf (views size count image) ≡ some state
-    → Lands (mountDue size count image) a → MountTells state (answerNumbers (answer (mountDue size count image) a) .turns)
+    → Lands (mountDue size count image) a → answerNumbers (answer (mountDue size count image) a) .turns ≡ mountTurns state
 unfolding views
 mount-turns-show size count image a state legal found lands =
     let is = mount-is size count image (record { legal = legal; blocks = refl }) state found in
-    let turns : answerNumbers (answer (mountDue size count image) a) .turns ≡ mountTurns state =
-    ap (λ (d : Due). answerNumbers (answer d a) .turns) is ∙ landed-turns _ (mountTurns state) a (subst (λ (d : Due). Lands d a) is lands) in
-    subst (MountTells state) (sym turns) (mount-tells state)
+    ap (λ (d : Due). answerNumbers (answer d a) .turns) is ∙ landed-turns _ (mountTurns state) a (subst (λ (d : Due). Lands d a) is lands)

@@ -1,7 +1,6 @@
 -- `read`: each check is one of the rule's, in its order.
 -- Assumes nothing.
 use mathlib.Core.Path.{_≡_, refl, sym, ap, _∙_}
-use mathlib.Core.List.{List}
 use mathlib.Core.Option.{some}
 use lib.ListN.{length}
 use borrow.Author.Needs.{needs}
@@ -9,15 +8,12 @@ use Rattle.rules.specs.Meaning.{atRest, stateOf}
 use Rattle.rules.specs.Calls as rule
 use Rattle.rules.specs.Calls.{bufferAfter, replyNumbers}
 use Rattle.layout.specs.declared.Sizes.the-variants.{Legal}
-use Rattle.layout.specs.Geometry.{sectorsOf, sizesOf, Backs}
+use Rattle.layout.specs.Geometry.{sizesOf, Backs}
 use Rattle.layout.specs.Numbers.{sectorNo}
 use Rattle.layout.proofs.Laws.{legal-backs}
-use Rattle.image.specs.declared.Status.{Status}
-use Rattle.image.specs.Answer.{statusOf, viewsIn, Summarizes}
+use Rattle.image.specs.Answer.{viewsIn}
 use Rattle.image.proofs.Laws.{survey-state, survey-summaries, rest-inside}
-use Rattle.answer.specs.declared.Refusal.{Refusal}
-use Rattle.answer.specs.declared.Reply.the-variants as reply
-use Rattle.answer.specs.Answer.{refusalOf, refusalAs, replyAs, replyNumbersOf}
+use Rattle.answer.specs.Answer.{refusalOf, replyNumbersOf}
 use Rattle.store.specs.State.{openAs}
 use Rattle.store.proofs.Sizes.{open-working}
 use Rattle.answer.proofs.Told.{numbers-as}
@@ -62,16 +58,20 @@ unfolding replyNumbersOf refusalOf bufferAfter
 returns c =
     let k = c .before .before .before .before .before in
     let a = k .args in
+    let (answers, buffer) =
     both replyNumbers (a .buffer .now)
-    (read-illegal (a .sector-size) (a .count) (a .image .now) (a .id) (length (a .buffer .now)) (sym (c .before .before .new .ensures) ∙ c .enum-told .given .1))
+    (read-illegal (a .sector-size) (a .count) (a .image .now) (a .id) (length (a .buffer .now)) (sym (c .before .before .new .ensures) ∙ c .enum-told .given .1)) in
+    (answers, (buffer, refl))
 
 returns-2 : tie.Need-returns-2
 unfolding replyNumbersOf refusalOf bufferAfter
 returns-2 c =
     let l = c .before in
     let a = l .before .before .before .before .before .before .args in
+    let (answers, buffer) =
     both replyNumbers (a .buffer .now)
-    (read-reserved (a .sector-size) (a .count) (a .image .now) (a .id) (length (a .buffer .now)) (l .before .g .given .0 .0) (legal l) (c .if1 .taken))
+    (read-reserved (a .sector-size) (a .count) (a .image .now) (a .id) (length (a .buffer .now)) (l .before .g .given .0 .0) (legal l) (c .if1 .taken)) in
+    (answers, (buffer, refl))
 
 survey-requires : tie.Need-survey-requires
 survey-requires c κs = backs (c .before)
@@ -106,7 +106,7 @@ returns-3 c =
     let a = l .before .before .before .before .before .before .args in
     let due = read-rest (a .sector-size) (a .count) (a .image .now) (a .id) (length (a .buffer .now)) (l .before .g .given .0 .0) (legal l) (o .before .before .before .if1 .left) (rest w) in
     let r = c .before .before .read .ensures in
-    (ap replyNumbersOf (r .0) ∙ numbers-as _ ∙ ap replyNumbers (sym due), r .1 ∙ ap (λ (x : rule.Reply). bufferAfter x (a .buffer .now)) (sym due))
+    (ap replyNumbersOf (r .0) ∙ numbers-as _ ∙ ap replyNumbers (sym due), (r .1 ∙ ap (λ (x : rule.Reply). bufferAfter x (a .buffer .now)) (sym due), refl))
 
 returns-4 : tie.Need-returns-4
 unfolding replyNumbersOf bufferAfter
@@ -114,8 +114,10 @@ returns-4 c =
     let o = c .before .before .before in
     let l = o .before .before .before .before in
     let a = l .before .before .before .before .before .before .args in
+    let (answers, buffer) =
     both replyNumbers (a .buffer .now)
-    (read-unready (a .sector-size) (a .count) (a .image .now) (a .id) (length (a .buffer .now)) (l .before .g .given .0 .0) (legal l) (o .before .before .before .if1 .left) (opened o ∙ c .before .refusal .given .1))
+    (read-unready (a .sector-size) (a .count) (a .image .now) (a .id) (length (a .buffer .now)) (l .before .g .given .0 .0) (legal l) (o .before .before .before .if1 .left) (opened o ∙ c .before .refusal .given .1)) in
+    (answers, (buffer, refl))
 
 pub read-spec : {M : Type 1} → statement M
 read-spec =
