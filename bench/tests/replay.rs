@@ -1,4 +1,9 @@
-//! A difference is reported with a script and an image that show it again.
+//! A difference is reported with a script and an image that show it again, to the programs of this package and, where
+//! GUST_DRIVE names it, to the driver.
+
+use std::io::Write;
+use std::path::Path;
+use std::process::{Command, Stdio};
 
 use bench::differ::{run, Run};
 use bench::model::Model;
@@ -33,6 +38,29 @@ impl Store for Wrong {
     }
 }
 
+/// What the driver prints for a script on a copy of an image, and what it leaves of it.
+fn driven(drive: &str, dir: &Path, name: &str) -> (String, Vec<u8>) {
+    let image = dir.join("driven.img");
+    std::fs::copy(dir.join(name).with_extension("img"), &image).unwrap();
+    let script = std::fs::read(dir.join(name).with_extension("script")).unwrap();
+    let mut child =
+        Command::new(drive).arg(&image).stdin(Stdio::piped()).stdout(Stdio::piped()).spawn().expect("the driver runs");
+    let mut input = child.stdin.take().unwrap();
+    let feeder = std::thread::spawn(move || input.write_all(&script).unwrap());
+    let output = child.wait_with_output().unwrap();
+    feeder.join().unwrap();
+    (String::from_utf8(output.stdout).unwrap(), std::fs::read(image).unwrap())
+}
+
+/// The first line that the driver prints for an answer, as far as the answer settles it.
+fn told(answer: &Answer) -> String {
+    match answer.number {
+        0 => format!("stores {} turns {}", answer.stores, answer.turns),
+        11 => format!("cut stores {} turns 0", answer.stores),
+        n => format!("refused {n} "),
+    }
+}
+
 #[test]
 fn scripts_and_images_show_it_again() {
     for seed in 1..=5 {
@@ -48,7 +76,7 @@ fn scripts_and_images_show_it_again() {
         assert!(calls.len() == 1 && calls[0] == d.call);
         let before = std::fs::read(dir.join("call.img")).unwrap();
         let (mut a, mut b) = (before.clone(), before.clone());
-        calls[0].make(&mut Model::new(), &mut a, size, count, &mut []);
+        let answer = calls[0].make(&mut Model::new(), &mut a, size, count, &mut []);
         calls[0].make(&mut Wrong(Model::new()), &mut b, size, count, &mut []);
         assert_eq!(
             (a.clone(), b),
@@ -67,6 +95,14 @@ fn scripts_and_images_show_it_again() {
             call.make(&mut Model::new(), &mut image, size, count, &mut buffer);
         }
         assert_eq!(image, a);
+
+        // and the driver shows both
+        if let Ok(drive) = std::env::var("GUST_DRIVE") {
+            let (text, left) = driven(&drive, &dir, "call");
+            assert!(text.starts_with(&told(&answer)), "{text}");
+            assert_eq!(left, a);
+            assert_eq!(driven(&drive, &dir, "history").1, a);
+        }
         std::fs::remove_dir_all(dir).unwrap();
     }
 }

@@ -1,1 +1,2 @@
--- What the contracts of `rest` cite is in the crates below.
+-- What the contracts of `at_rest` cite, besides the definitions of `rules` and of the crates below.
+pub mod Opened

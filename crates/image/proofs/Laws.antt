@@ -1,4 +1,4 @@
--- What a caller learns of a survey: the state by the status, the summaries where there is a store, and how small they are.
+-- What a caller learns of a survey: the state by the status, the outlines where there is a store, and how small the summaries are.
 -- Assumes nothing.
 use mathlib.Core.Path.{_≡_, refl, sym, ap, _∙_, subst}
 use mathlib.Core.List.{List, []}
@@ -19,7 +19,7 @@ use Rattle.layout.specs.declared.Geometry.{Geometry}
 use Rattle.layout.specs.Geometry.{blocksOf, sectorsOf, Sound}
 use Rattle.sector.proofs.Laws.{Bounded, entries-bounded}
 use Rattle.image.specs.declared.Survey.{Survey}
-use Rattle.image.specs.Answer.{statusOf, statusAs, summaryAs, viewsIn, Summarizes, Surveys}
+use Rattle.image.specs.Answer.{statusOf, statusAs, summaryAs, viewsIn, Outlines, Surveys}
 use Rattle.image.proofs.Sectors.{views-count}
 
 status-state : (o : Option State) → statusOf (statusAs o) ≡ o
@@ -32,9 +32,9 @@ module _ {g : Geometry} {bytes : List ℕ} {r : Survey} (k : Surveys g bytes r) 
   pub survey-state : stateOf (viewsIn g bytes) ≡ statusOf (r .status)
   survey-state = sym (status-state (stateOf (viewsIn g bytes))) ∙ ap statusOf (sym (k .status))
 
-  pub survey-summaries : {state : State} → stateOf (viewsIn g bytes) ≡ some state → Summarizes (viewsIn g bytes) (r .sectors)
+  pub survey-outlines : {state : State} → stateOf (viewsIn g bytes) ≡ some state → Outlines (viewsIn g bytes) (r .sectors)
   unfolding stateOf
-  survey-summaries {state} e =
+  survey-outlines {state} e =
       let views : List View = viewsIn g bytes in
       k .sectors (took-then (all (λ (v : View). v .led) views) (stateBy views (placesFrom 0 isWorking views) (placesFrom 0 isUnfinished views)) none (Option·none-ne-some state) e .0)
 

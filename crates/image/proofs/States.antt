@@ -16,7 +16,8 @@ use Rattle.layout.specs.Numbers.{sectorAt}
 use Rattle.mask.specs.Flags.{isSingleton}
 use Rattle.image.specs.declared.Summary.{Summary}
 use Rattle.image.specs.declared.Status.the-variants.{Rest, NoStore}
-use Rattle.image.specs.Answer.{statusAs, noSummary, Summarizes}
+use Rattle.image.specs.Answer.{statusAs, noSummary, Outlines}
+use Rattle.image.proofs.Sectors.{outline-open}
 
 -- a count of 0 is an empty list
 empty-count {ℓ} : {A : Type ℓ} (xs : List A) → isEmpty xs ≡ eqb (length xs) 0
@@ -37,9 +38,9 @@ module _ (views : List View) (w u : ℕ) {us : List ℕ} (one : us ≡ u ∷ [])
   unfolding stateBy
   not-next other = rw (one, ne-eqb u (next (length views) w) other, when-false)
 
-  module _ {sectors : List Summary} (noted : Summarizes views sectors) (here : u < length views) where
+  module _ {sectors : List Summary} (noted : Outlines views sectors) (here : u < length views) (unclosed : viewAt views u .closed ≡ false) where
     counted : isEmpty (viewAt views u .entries) ≡ eqb (getD sectors u noSummary .entries) 0
-    counted = empty-count (viewAt views u .entries) ∙ ap (λ (x : Summary). eqb (x .entries) 0) (sym (noted .each u here))
+    counted = empty-count (viewAt views u .entries) ∙ ap (λ (x : Summary). eqb (x .entries) 0) (sym (noted .each u here ∙ outline-open (viewAt views u) unclosed))
 
     pub spare-used : (getD sectors u noSummary .entries ≡ 0 → ⊥) → NoStore ≡ statusAs (stateBy views (w ∷ []) us)
     unfolding stateBy

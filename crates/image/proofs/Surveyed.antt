@@ -20,14 +20,14 @@ use Rattle.mask.specs.Flags.{flagsOf, sectorsIn, Holds}
 use Rattle.mask.proofs.Laws.{survey-added, survey-passed, tested-places}
 use Rattle.image.specs.declared.Summary.{Summary}
 use Rattle.image.specs.declared.ring.Classes.{Classes}
-use Rattle.image.specs.Answer.{summaryAs, noSummary, marked, Summarizes}
-use Rattle.image.proofs.Sectors.{working-by, unfinished-by}
+use Rattle.image.specs.Answer.{outlineAs, noSummary, marked, Outlines}
+use Rattle.image.proofs.Sectors.{working-by, unfinished-by, unfinished-open}
 
--- The sectors below s are read: their leads are right, and their summaries and classes are noted.
+-- The sectors below s are read: their leads are right, and their outlines and classes are noted.
 pub record Surveyed (views : List View) (sectors : List Summary) (classes : Classes) (s : ℕ) : Type 0 where
   pub room : length sectors ≡ maxSectors
   pub led : (t : ℕ) → t < s → viewAt views t .led ≡ true
-  pub noted : (t : ℕ) → t < s → getD sectors t noSummary ≡ summaryAs (viewAt views t)
+  pub noted : (t : ℕ) → t < s → getD sectors t noSummary ≡ outlineAs (viewAt views t)
   pub working : Holds (classes .working) (map isWorking (take s views))
   pub unfinished : Holds (classes .unfinished) (map isUnfinished (take s views))
 
@@ -53,22 +53,28 @@ surveyed-none views room working unfinished =
 below-more : {P : ℕ → Type 0} (s : ℕ) → P s → ((t : ℕ) → t < s → P t) → (t : ℕ) → t < s + 1 → P t
 below-more {P} s here before t h = here-or P s t here (λ other. before t (omega arith))
 
+-- so it is with what is noted of the sectors, where that of sector s is right
+pub noted-more : (known : ℕ → Summary) (sectors : List Summary) (s : ℕ) {summary : Summary} → s < length sectors → summary ≡ known s
+    → ((t : ℕ) → t < s → getD sectors t noSummary ≡ known t) → (t : ℕ) → t < s + 1 → getD (set sectors s summary) t noSummary ≡ known t
+noted-more known sectors s {summary} room same before =
+    below-more s
+    (getD-set-same sectors s summary noSummary room ∙ same)
+    (λ t h. getD-set-other sectors s t summary noSummary (λ e. omega arith) ∙ before t h)
+
 module _ (views : List View) where
   -- a sector with a right lead
   module _ (few : length views ≤ maxSectors) {sectors : List Summary} {classes next : Classes} {s : ℕ} (k : Surveyed views sectors classes s) (here : s < length views) where
-    pub surveyed-more : {summary : Summary} → viewAt views s .led ≡ true → summary ≡ summaryAs (viewAt views s)
-        → flagsOf (next .working) ≡ marked (not (summary .closed) && summary .scan .done) s (flagsOf (classes .working))
-        → flagsOf (next .unfinished) ≡ marked (not (summary .closed) && not (summary .scan .done)) s (flagsOf (classes .unfinished))
-        → Surveyed views (set sectors s summary) next (s + 1)
+    pub surveyed-more : {outline : Summary} → viewAt views s .led ≡ true → outline ≡ outlineAs (viewAt views s)
+        → flagsOf (next .working) ≡ marked (not (outline .closed) && outline .scan .done) s (flagsOf (classes .working))
+        → flagsOf (next .unfinished) ≡ marked (not (outline .closed) && not (outline .scan .done)) s (flagsOf (classes .unfinished))
+        → Surveyed views (set sectors s outline) next (s + 1)
     unfolding viewAt
-    surveyed-more {summary} led same working unfinished =
+    surveyed-more {outline} led same working unfinished =
         let view : View = viewAt views s in
         record {
-          room = length-set sectors s summary ∙ k .room;
+          room = length-set sectors s outline ∙ k .room;
           led = below-more s led (k .led);
-          noted = below-more s
-              (getD-set-same sectors s summary noSummary (omega (arith, k .room)) ∙ same)
-              (λ t h. getD-set-other sectors s t summary noSummary (λ e. omega arith) ∙ k .noted t h);
+          noted = noted-more (λ t. outlineAs (viewAt views t)) sectors s (omega (arith, k .room)) same (k .noted);
           working = held-marked isWorking noView views few s here (k .working)
               (rw (same, working-by view) at working);
           unfinished = held-marked isUnfinished noView views few s here (k .unfinished)
@@ -77,8 +83,8 @@ module _ (views : List View) where
 
   -- all are read
   module _ {sectors : List Summary} {classes : Classes} {s : ℕ} (k : Surveyed views sectors classes s) (last : length views ≤ s) where
-    pub surveyed-summaries : Summarizes views sectors
-    surveyed-summaries = record { each = λ t h. k .noted t (omega arith) }
+    pub surveyed-outlines : Outlines views sectors
+    surveyed-outlines = record { each = λ t h. k .noted t (omega arith) }
 
     pub surveyed-working : sectorsIn (classes .working) ≡ placesFrom 0 isWorking views
     surveyed-working = tested-places isWorking views (rw (take-all s views last) at (k .working))
@@ -88,6 +94,10 @@ module _ (views : List View) where
 
     pub surveyed-one : (w : ℕ) → sectorsIn (classes .working) ≡ w ∷ [] → w < length views
     surveyed-one w e = one-place isWorking noView views w (sym surveyed-working ∙ e) .here
+
+    pub surveyed-open : (u : ℕ) → sectorsIn (classes .unfinished) ≡ u ∷ [] → viewAt views u .closed ≡ false
+    unfolding viewAt
+    surveyed-open u e = unfinished-open _ (one-place isUnfinished noView views u (sym surveyed-unfinished ∙ e) .holds)
 
     pub surveyed-state : stateBy views (sectorsIn (classes .working)) (sectorsIn (classes .unfinished)) ≡ stateOf views
     unfolding stateOf viewAt

@@ -1,28 +1,23 @@
-// Surveys the ring of sectors: what each of them comes to, its class, and the state that the classes decide.
+// Surveys the ring of sectors: their outlines, their classes, and the state that the classes decide.
 ghost use mathlib.Core.Path.{_≡_};
 ghost use mathlib.Core.Bool.{not, _&&_};
 ghost use mathlib.Core.List.{[], _∷_};
 ghost use Prim.Native.Nat.{ℕ, _<_};
 ghost use Rattle.rules.specs.Ground.{maxSectors};
-ghost use Rattle.rules.specs.Meaning.{viewAt, next, previous};
+ghost use Rattle.rules.specs.Meaning.{next, previous};
 ghost use Rattle.layout.specs.Numbers.{sectorNo};
 ghost use Rattle.layout.specs.Geometry.{sectorsOf, Sound, Backs};
 ghost use Rattle.mask.specs.Flags.{flagsOf, sectorsIn};
-ghost use Rattle.image.specs.Answer.{lookAs, marked, viewsIn, Decides, Surveys};
+ghost use Rattle.image.specs.Answer.{marked, Decides, Surveys};
 use crate::Status;
 use crate::Summary;
 use crate::Survey;
+use crate::outline;
+use crate::outline::Look;
 use entry::Scan;
 use layout::Geometry;
 use layout::Sector;
 use mask::Mask;
-use sector::Reading;
-
-// The look at one sector: what it comes to, or that it has no right lead.
-enum Look {
-    Led(Summary),
-    NoLead,
-}
 
 // The class masks: the working sectors, and the unfinished ones. All others are closed.
 struct Classes {
@@ -77,26 +72,6 @@ pub fn previous_sector(g: Geometry, s: Sector) -> Sector
         return Sector::new(g.sectors() - 1);
     }
     Sector::new(number - 1)
-}
-
-// What sector s comes to.
-fn sector_summary(image: &[u8], g: Geometry, s: Sector) -> Look
-    requires { ⌜ Backs g (now image) ⌝ }
-    requires { ⌜ sectorNo s < sectorsOf g ⌝ }
-    ensures { λ r. ⌜ r ≡ lookAs (viewAt (viewsIn g (now (image .entry))) (sectorNo s)) ⌝ }
-{
-    let reading = sector::read(layout::sector_bytes(image, g, s), g);
-    let Reading::Led(content) = reading else {
-        return Look::NoLead;
-    };
-    let entries = content.entries;
-    let scan = entries.scan;
-    Look::Led(Summary {
-        cycle: content.cycle,
-        closed: content.closed,
-        entries: entries.count,
-        scan: scan,
-    })
 }
 
 // The state where sector w is the working one: by the unfinished ones, and by what the spare holds.
@@ -169,14 +144,14 @@ pub fn survey(image: &[u8], g: Geometry) -> Survey
     };
     let mut s = 0;
     while s < count {
-        let Look::Led(summary) = sector_summary(image, g, Sector::new(s)) else {
+        let Look::Led(outline) = outline::sector_outline(image, g, Sector::new(s)) else {
             return Survey {
                 status: Status::NoStore,
                 sectors: sectors,
             };
         };
-        sectors[s] = summary;
-        classes = classes.with(Sector::new(s), summary.closed, summary.scan.done);
+        sectors[s] = outline;
+        classes = classes.with(Sector::new(s), outline.closed, outline.scan.done);
         s += 1;
     }
     Survey {

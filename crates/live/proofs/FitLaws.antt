@@ -8,14 +8,14 @@ use native.Mathlib.Omega.{arith}
 use Rattle.rules.specs.Notation.{Each, concat}
 use Rattle.rules.specs.Ground.{Image, imageOf}
 use Rattle.rules.specs.Look.{needOf, start}
-use Rattle.rules.specs.Reading.{Entry, afterAll}
-use Rattle.rules.specs.Meaning.{atRest, Is, viewsOf, viewAt, stateOf, next, allBut, lookup}
+use Rattle.rules.specs.Reading.{Entry, View, afterAll}
+use Rattle.rules.specs.Meaning.{atRest, Is, viewsOf, viewAt, stateOf, next, allBut, lookup, needsOf}
 use Rattle.rules.specs.Stores.{apply, turns, moved, leastTurns, change}
 use Rattle.rules.specs.Calls.{refuse, noRoom, make, changeOn}
 use Rattle.rules.proofs.Blocks.OnBytes.{image-of-bytes}
 use Rattle.rules.proofs.Ring.History.{entriesEach}
 use Rattle.rules.proofs.Ring.States.{state-is}
-use Rattle.rules.proofs.Ring.Fits.{length-counting, turns-least}
+use Rattle.rules.proofs.Ring.Fits.{length-counting, turns-least, least-turns}
 use Rattle.rules.proofs.Crash.Changing.{turns-room}
 use Rattle.rules.proofs.Crash.Resting.{change-none, change-some}
 use Rattle.layout.specs.declared.Geometry.{Geometry}
@@ -34,6 +34,11 @@ fit-after (some m) {t} e = cc
 pub fit-no-room : (o : Option ℕ) → fitAs o ≡ fit.NoRoom → o ≡ none
 fit-no-room none e = refl
 fit-no-room (some m) e = let z : _≡_ {A = ℕ} 0 1 = cc in absurd (omega arith)
+
+-- with no turn, by the needs of the open sector
+pub fits-open : (need limit w : ℕ) (views : List View) → needsOf (viewAt views w .entries) + need ≤ limit → leastTurns need limit w views ≡ some 0
+fits-open need limit w views room =
+    least-turns need limit w views 0 (record { within = omega arith; fits = room; least = λ t b. absurd (omega arith) })
 
 -- what is due of a change
 module _ (g : Geometry) (bytes : List ℕ) (w limit : ℕ) (e : Entry) where

@@ -22,6 +22,7 @@ use Rattle.image.specs.Answer.{summaryAs, noSummary, viewsIn, Summarizes}
 use Rattle.image.proofs.Sectors.{views-count}
 use Rattle.image.proofs.Laws.{summary-bounded}
 use Rattle.live.proofs.LiveNeeds.{needs-few}
+use Rattle.live.proofs.FitLaws.{fits-open}
 
 -- It does not fit after fewer than t turns; s is the sector before the one that turn t copies from, at first the spare.
 pub record Fitting (need limit : ℕ) (g : Geometry) (bytes : List ℕ) (w t s : ℕ) : Type 0 where
@@ -51,9 +52,7 @@ module _ (g : Geometry) (bytes : List ℕ) (backs : Backs g bytes) (w : ℕ) (he
     noted-needs = ap (λ (x : Summary). x .scan .needs) summarized ∙ needs-all (viewAt (viewsIn g bytes) w .entries)
 
     pub fits-now : (need limit : ℕ) → getD sectors w noSummary .scan .needs + need ≤ limit → leastTurns need limit w (viewsIn g bytes) ≡ some 0
-    fits-now need limit room =
-        least-turns need limit w (viewsIn g bytes) 0
-        (record { within = omega arith; fits = omega (arith, noted-needs); least = λ t b. absurd (omega arith) })
+    fits-now need limit room = fits-open need limit w (viewsIn g bytes) (omega (arith, noted-needs))
 
     pub fitting-start : (need limit : ℕ) → limit < getD sectors w noSummary .scan .needs + need → {s : ℕ} → s ≡ next (sectorsOf g) w
         → Fitting need limit g bytes w 1 s

@@ -1,73 +1,77 @@
--- An entry of a sector of an image by the fields of its block: whether it is live, and what it needs.
+-- An entry of a sector of an image by the fields of its block: whether it is a value, which entry it renews, and what it needs.
 -- Assumes nothing.
-use mathlib.Core.Path.{_≡_, refl, sym, ap, _∙_}
-use mathlib.Core.Bool.{true, false, not}
-use mathlib.Core.List.{List, [], _++_}
-use Prim.Native.Nat.{ℕ, suc, _+_, _-_, _*_, _<_, _≤_}
-use native.Mathlib.Omega.{arith}
-use lib.ListN.{length, getD, drop}
+use mathlib.Core.Path.{_≡_, sym, ap, _∙_}
+use mathlib.Core.Bool.{true, false}
+use mathlib.Core.List.{List}
+use mathlib.Core.Option.{none}
+use Prim.Native.Nat.{ℕ, _+_, _<_}
+use lib.Dec.{eqb}
+use lib.ListN.{length, getD}
 use borrow.Author.Tests.{eq-eqb, ne-eqb}
 use Rattle.rules.specs.Ground.{reservedId}
 use Rattle.rules.specs.Entry.{idOf, lengthOf}
-use Rattle.rules.specs.Look.{value, dataBlocks, needOf}
-use Rattle.rules.specs.Reading.{View}
-use Rattle.rules.specs.Meaning.{viewAt, entriesIn, isNamed, isValue, isRenewed, newerThan}
-use Rattle.rules.proofs.Basics.Notation.{if-false, refuted, both-true}
+use Rattle.rules.specs.Look.{Head, value, dataBlocks, needOf}
+use Rattle.rules.specs.Reading.{Entry}
+use Rattle.rules.specs.Meaning.{viewAt, isValue}
+use Rattle.rules.proofs.Basics.Notation.{by-test, if-true, if-false, refuted, both-true}
 use Rattle.rules.proofs.Blocks.Lying.{headBy}
-use Rattle.rules.proofs.Ring.Live.{isLive}
 use Rattle.layout.specs.declared.Geometry.{Geometry}
+use Rattle.layout.specs.declared.Sector.{Sector}
 use Rattle.layout.specs.Geometry.{sectorsOf, Backs}
-use Rattle.image.specs.Answer.{viewsIn}
-use Rattle.image.specs.Answer.{noEntry}
-use Rattle.search.specs.Search.{seek}
-use Rattle.live.specs.Live.{liveFlagsIn}
-use Rattle.image.proofs.Sectors.{views-count}
+use Rattle.layout.specs.Numbers.{sectorNo}
+use Rattle.image.specs.Answer.{noEntry, viewsIn}
+use Rattle.search.specs.Search.{lastNamedBelow}
+use Rattle.live.specs.Live.{liveFlagsIn, renewedBy}
 use Rattle.image.proofs.EntryBlocks.{entryBlock, entry-lies}
-use Rattle.live.proofs.LiveLaws.{live-flag}
-use Rattle.live.proofs.LiveSeeking.{isPlace, sought-newest}
+use Rattle.live.proofs.RenewedLaws.{live-by-renewed}
+
+-- the entries of a sector
+abbrev pub entriesAt : Geometry → List ℕ → Sector → List Entry
+entriesAt g bytes s = viewAt (viewsIn g bytes) (sectorNo s) .entries
 
 module _ (g : Geometry) (bytes : List ℕ) (backs : Backs g bytes) (s n : ℕ) (inside : s < sectorsOf g)
-    (here : n < length (viewAt (viewsIn g bytes) s .entries)) (u : ℕ) where
-  flag-of : getD (liveFlagsIn u s (viewsIn g bytes)) n false
-      ≡ isLive (getD (viewAt (viewsIn g bytes) s .entries) n noEntry)
-      (drop (suc n) (viewAt (viewsIn g bytes) s .entries) ++ entriesIn (newerThan u s (viewsIn g bytes)))
-  unfolding liveFlagsIn
-  flag-of = live-flag (viewAt (viewsIn g bytes) s .entries) (entriesIn (newerThan u s (viewsIn g bytes))) n noEntry here
+    (here : n < length (viewAt (viewsIn g bytes) s .entries)) where
+  -- ---- a value has an ID of its own, and bytes
 
-  -- ---- what is no value is not live
+  pub reserved-no-value : idOf (entryBlock g bytes s n) ≡ reservedId → isValue (getD (viewAt (viewsIn g bytes) s .entries) n noEntry .head) ≡ false
+  reserved-no-value reserved = refuted _ (λ v. entry-lies g bytes backs s n inside here .valued .0 v .0 reserved)
 
-  dead : (isValue (getD (viewAt (viewsIn g bytes) s .entries) n noEntry .head) ≡ true → ⊥) → getD (liveFlagsIn u s (viewsIn g bytes)) n false ≡ false
-  dead never = flag-of ∙ rw (refuted _ never)
+  pub empty-no-value : lengthOf (entryBlock g bytes s n) ≡ 0 → isValue (getD (viewAt (viewsIn g bytes) s .entries) n noEntry .head) ≡ false
+  empty-no-value nothing = refuted _ (λ v. entry-lies g bytes backs s n inside here .valued .0 v .1 nothing)
 
-  pub reserved-dead : idOf (entryBlock g bytes s n) ≡ reservedId → getD (liveFlagsIn u s (viewsIn g bytes)) n false ≡ false
-  reserved-dead reserved = dead (λ v. entry-lies g bytes backs s n inside here .valued .0 v .0 reserved)
+  pub filled-value : (idOf (entryBlock g bytes s n) ≡ reservedId → ⊥) → (lengthOf (entryBlock g bytes s n) ≡ 0 → ⊥)
+      → isValue (getD (viewAt (viewsIn g bytes) s .entries) n noEntry .head) ≡ true
+  filled-value user filled = entry-lies g bytes backs s n inside here .valued .1 (user, filled)
 
-  pub empty-dead : lengthOf (entryBlock g bytes s n) ≡ 0 → getD (liveFlagsIn u s (viewsIn g bytes)) n false ≡ false
-  empty-dead nothing = dead (λ v. entry-lies g bytes backs s n inside here .valued .0 v .1 nothing)
+  -- ---- a value or a deletion renews the last entry of its ID, and a done none
 
-  -- ---- a value is live where it is found, and needs a block and its data blocks
+  module _ (count : ℕ) (es : List Entry) where
+    renewed-by-fields : renewedBy (getD (viewAt (viewsIn g bytes) s .entries) n noEntry .head) count es
+        ≡ renewedBy (headBy (idOf (entryBlock g bytes s n)) (lengthOf (entryBlock g bytes s n))) count es
+    renewed-by-fields = ap (λ (h : Head). renewedBy h count es) (entry-lies g bytes backs s n inside here .head)
+
+    pub reserved-renews : idOf (entryBlock g bytes s n) ≡ reservedId → renewedBy (getD (viewAt (viewsIn g bytes) s .entries) n noEntry .head) count es ≡ none
+    unfolding renewedBy headBy
+    reserved-renews reserved = renewed-by-fields ∙ rw (eq-eqb _ reservedId reserved, if-true)
+
+    pub user-renews : (idOf (entryBlock g bytes s n) ≡ reservedId → ⊥)
+        → renewedBy (getD (viewAt (viewsIn g bytes) s .entries) n noEntry .head) count es ≡ lastNamedBelow (idOf (entryBlock g bytes s n)) count es
+    unfolding renewedBy headBy
+    user-renews user =
+        renewed-by-fields ∙ rw (ne-eqb _ reservedId user, if-false)
+        (by-test (eqb (lengthOf (entryBlock g bytes s n)) 0) (λ t. rw (t, if-true)) (λ f. rw (f, if-false)))
+
+  -- ---- a live value needs a block and its data blocks
 
   value-head : (idOf (entryBlock g bytes s n) ≡ reservedId → ⊥) → (lengthOf (entryBlock g bytes s n) ≡ 0 → ⊥)
       → getD (viewAt (viewsIn g bytes) s .entries) n noEntry .head ≡ value (idOf (entryBlock g bytes s n)) (lengthOf (entryBlock g bytes s n))
   unfolding headBy
   value-head user filled = entry-lies g bytes backs s n inside here .head ∙ rw (ne-eqb _ reservedId user, ne-eqb _ 0 filled, if-false, if-false)
 
-  pub value-live : u < sectorsOf g → (s ≡ u → ⊥) → (idOf (entryBlock g bytes s n) ≡ reservedId → ⊥) → (lengthOf (entryBlock g bytes s n) ≡ 0 → ⊥)
-      → getD (liveFlagsIn u s (viewsIn g bytes)) n false
-      ≡ isPlace s n (seek (idOf (entryBlock g bytes s n)) (sectorsOf g) u (sectorsOf g - 1) (viewsIn g bytes))
-  unfolding isValue isRenewed isNamed
-  value-live spare other user filled =
-      let id : ℕ = idOf (entryBlock g bytes s n) in
-      let views : List View = viewsIn g bytes in
-      let head = value-head user filled in
-      let named : isNamed id (getD (viewAt views s .entries) n noEntry .head) ≡ true = ap (isNamed id) head ∙ eq-eqb id id refl in
-      let count : length views ≡ sectorsOf g = views-count g bytes in
-      flag-of ∙ rw head
-      (sym (rw count at (sought-newest id u s n views (omega arith) (omega arith) other here named)))
-
-  pub live-need : getD (liveFlagsIn u s (viewsIn g bytes)) n false ≡ true
+  pub live-need : (u : ℕ) → getD (liveFlagsIn u s (viewsIn g bytes)) n false ≡ true
       → needOf (getD (viewAt (viewsIn g bytes) s .entries) n noEntry .head) ≡ 1 + dataBlocks (lengthOf (entryBlock g bytes s n))
   unfolding needOf
-  live-need live =
-      let valued = entry-lies g bytes backs s n inside here .valued .0 (both-true _ _ (sym flag-of ∙ live) .0) in
+  live-need u live =
+      let told = sym (live-by-renewed u s (viewsIn g bytes) n here) ∙ live in
+      let valued = entry-lies g bytes backs s n inside here .valued .0 (both-true _ _ told .0) in
       ap needOf (value-head (valued .0) (valued .1))

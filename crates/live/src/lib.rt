@@ -1,19 +1,20 @@
 // The live values of a sector: which of its entries they are, and what they need.
 pub mod fit;
+mod renewed;
 
 ghost use mathlib.Core.Path.{_≡_};
-ghost use mathlib.Core.Bool.{false};
+ghost use mathlib.Core.Bool.{false, not, _&&_};
 ghost use Prim.Native.Nat.{_-_, _+_, _≤_, _<_};
 ghost use lib.ListN.{length, getD};
 ghost use Rattle.rules.specs.Ground.{blockAt, imageOf};
 ghost use Rattle.rules.specs.Entry.{lengthOf};
 ghost use Rattle.rules.specs.Look.{dataBlocks};
-ghost use Rattle.rules.specs.Meaning.{viewAt, next, needsOf, liveIn};
+ghost use Rattle.rules.specs.Meaning.{viewAt, next, isValue, needsOf, liveIn};
 ghost use Rattle.layout.specs.Numbers.{sectorNo};
 ghost use Rattle.layout.specs.Geometry.{blocksOf, sectorsOf, Backs};
 ghost use Rattle.mask.specs.Flags.{padded};
 ghost use Rattle.mask.specs.Marks.{maxMarks, marksOf};
-ghost use Rattle.image.specs.Answer.{viewsIn, Summarizes};
+ghost use Rattle.image.specs.Answer.{noEntry, viewsIn, Summarizes};
 ghost use Rattle.live.specs.Live.{liveFlagsIn};
 use entry::look;
 use image::Summary;
@@ -21,7 +22,6 @@ use image::entries;
 use layout::Geometry;
 use layout::Sector;
 use mask::marks::Marks;
-use search::Newest;
 
 // What the value that is entry n of sector s needs: its own block, and its data blocks.
 fn value_need(image: &[u8], g: Geometry, s: Sector, n: usize) -> usize
@@ -34,38 +34,21 @@ fn value_need(image: &[u8], g: Geometry, s: Sector, n: usize) -> usize
     1 + look::data_blocks(layout::le16(block, look::LENGTH_AT) as usize)
 }
 
-// Is entry n of sector s a value, and its ID's newest entry? The sector after w is ignored.
-fn is_live(
-    image: &[u8],
-    g: Geometry,
-    sectors: [Summary; Geometry::MAX_SECTORS],
-    w: Sector,
-    s: Sector,
-    n: usize,
-) -> bool
+// Is entry n of sector s a value, and not one of those that have a later one of their ID?
+fn is_live(image: &[u8], g: Geometry, s: Sector, n: usize, renewed: Marks) -> bool
     requires { ⌜ Backs g (now image) ⌝ }
-    requires { ⌜ Summarizes (viewsIn g (now image)) sectors ⌝ }
-    requires { ⌜ sectorNo w < sectorsOf g ⌝ }
     requires { ⌜ sectorNo s < sectorsOf g ⌝ }
-    requires { ⌜ (sectorNo s ≡ next (sectorsOf g) (sectorNo w) → ⊥) ⌝ }
     requires { ⌜ n < length (viewAt (viewsIn g (now image)) (sectorNo s) .entries) ⌝ }
-    ensures { λ r. ⌜ r ≡ getD (liveFlagsIn (next (sectorsOf g) (sectorNo w)) (sectorNo s) (viewsIn g (now (image .entry)))) n false ⌝ }
+    ensures { λ r. ⌜ r ≡ (isValue (getD (viewAt (viewsIn g (now (image .entry))) (sectorNo s) .entries) n noEntry .head) && not (getD (marksOf renewed) n false)) ⌝ }
 {
     let block = entries::entry_block(image, g, s, n);
-    let id = layout::le32(block, look::ID_AT);
-    if id == Geometry::RESERVED_ID {
+    if layout::le32(block, look::ID_AT) == Geometry::RESERVED_ID {
         return false;
     }
     if layout::le16(block, look::LENGTH_AT) == 0 {
         return false;
     }
-    let Newest::Entry(t, newest) = search::newest_entry(image, g, sectors, w, id) else {
-        return false;
-    };
-    if t.number() != s.number() {
-        return false;
-    }
-    newest == n
+    !renewed.has(n)
 }
 
 // The entries of sector s that are live values. The sector after w is ignored: the spare at rest, the unfinished one mid-turn.
@@ -83,12 +66,13 @@ pub fn marks(
     requires { ⌜ (sectorNo s ≡ next (sectorsOf g) (sectorNo w) → ⊥) ⌝ }
     ensures { λ r. ⌜ marksOf r ≡ padded maxMarks (liveFlagsIn (next (sectorsOf g) (sectorNo w)) (sectorNo s) (viewsIn g (now (image .entry)))) ⌝ }
 {
+    let renewed = renewed::marks(image, g, sectors, w, s);
     let number = s.number();
     let entries = sectors[number].entries;
     let mut live = Marks::none();
     let mut n = 0;
     while n < entries {
-        if is_live(image, g, sectors, w, s, n) {
+        if is_live(image, g, s, n, renewed) {
             live = live.add(n);
         }
         n += 1;

@@ -87,7 +87,7 @@ pub record StandsAt (id : ℕ) (views : List View) (s n : ℕ) : Type 0 where
   pub named : isNamed id (getD (viewAt views s .entries) n noEntry .head) ≡ true
 
 -- the entry with the last number names the ID, and there is one of that number
-last-stands : (id : ℕ) (es : List Entry) (m n : ℕ) → lastNamedBelow id m es ≡ some n → (n < m) × (isNamed id (getD es n noEntry .head) ≡ true)
+pub last-stands : (id : ℕ) (es : List Entry) (m n : ℕ) → lastNamedBelow id m es ≡ some n → (n < m) × (isNamed id (getD es n noEntry .head) ≡ true)
 unfolding lastNamedBelow
 last-stands id es zero n e = absurd (Option·none-ne-some n e)
 last-stands id es (suc m) n e =

@@ -9,13 +9,14 @@ ghost use Rattle.rules.specs.Reading.{viewOf};
 ghost use Rattle.rules.specs.Meaning.{viewAt, next};
 ghost use Rattle.layout.specs.Numbers.{sectorNo};
 ghost use Rattle.layout.specs.Geometry.{blocksOf, sectorsOf, Sound, Backs};
-ghost use Rattle.image.specs.Answer.{viewsIn, Summarizes};
+ghost use Rattle.image.specs.Answer.{outlineAs, viewsIn, Outlines};
 ghost use Rattle.search.specs.Search.{lastNamed, seek, hitAs, newestAs};
 ghost use Rattle.search.specs.Value.{foundIn, foundAs};
 use entry::SMALL;
 use entry::look;
 use image::Summary;
 use image::entries;
+use image::outline;
 use image::ring;
 use layout::Block;
 use layout::Geometry;
@@ -23,13 +24,13 @@ use layout::Place;
 use layout::Sector;
 
 // The number of the newest entry of an ID in a sector, 0 being the sector's oldest.
-enum Hit {
+pub enum Hit {
     At(usize),
     Nothing,
 }
 
 // The newest entry of an ID, a value or a deletion: its sector, and its number there.
-pub enum Newest {
+enum Newest {
     Entry(Sector, usize),
     Nothing,
 }
@@ -65,19 +66,20 @@ fn newest_in(sector: &[u8], g: Geometry, entries: usize, id: u32) -> Hit
     Hit::Nothing
 }
 
-// The same in sector s of an image.
-fn newest_at(image: &[u8], g: Geometry, s: Sector, entries: usize, id: u32) -> Hit
+// The same in sector s of an image, by its outline: the entries of a closed sector are read only now.
+fn newest_at(image: &[u8], g: Geometry, s: Sector, outline: Summary, id: u32) -> Hit
     requires { ⌜ Backs g (now image) ⌝ }
     requires { ⌜ sectorNo s < sectorsOf g ⌝ }
-    requires { ⌜ entries ≡ length (viewAt (viewsIn g (now image)) (sectorNo s) .entries) ⌝ }
+    requires { ⌜ outline ≡ outlineAs (viewAt (viewsIn g (now image)) (sectorNo s)) ⌝ }
     requires { ⌜ (id ≡ reservedId → ⊥) ⌝ }
     ensures { λ r. ⌜ r ≡ hitAs (lastNamed id (viewAt (viewsIn g (now (image .entry))) (sectorNo s) .entries)) ⌝ }
 {
-    newest_in(layout::sector_bytes(image, g, s), g, entries, id)
+    let summary = outline::sector_summary(image, g, s, outline);
+    newest_in(layout::sector_bytes(image, g, s), g, summary.entries, id)
 }
 
 // All sectors but the one after w, from w back round the ring: at rest w is the working one, and the spare is left out.
-pub fn newest_entry(
+fn newest_entry(
     image: &[u8],
     g: Geometry,
     sectors: [Summary; Geometry::MAX_SECTORS],
@@ -85,7 +87,7 @@ pub fn newest_entry(
     id: u32,
 ) -> Newest
     requires { ⌜ Backs g (now image) ⌝ }
-    requires { ⌜ Summarizes (viewsIn g (now image)) sectors ⌝ }
+    requires { ⌜ Outlines (viewsIn g (now image)) sectors ⌝ }
     requires { ⌜ sectorNo w < sectorsOf g ⌝ }
     requires { ⌜ (id ≡ reservedId → ⊥) ⌝ }
     ensures { λ r. ⌜ r ≡ newestAs (seek id (sectorsOf g) (next (sectorsOf g) (sectorNo w)) (sectorsOf g - 1) (viewsIn g (now (image .entry)))) ⌝ }
@@ -94,8 +96,7 @@ pub fn newest_entry(
     let mut s = w;
     while left > 0 {
         let number = s.number();
-        let entries = sectors[number].entries;
-        let hit = newest_at(image, g, s, entries, id);
+        let hit = newest_at(image, g, s, sectors[number], id);
         if let Hit::At(n) = hit {
             return Newest::Entry(s, n);
         }
@@ -139,7 +140,7 @@ pub fn find(
     id: u32,
 ) -> Found
     requires { ⌜ Backs g (now image) ⌝ }
-    requires { ⌜ Summarizes (viewsIn g (now image)) sectors ⌝ }
+    requires { ⌜ Outlines (viewsIn g (now image)) sectors ⌝ }
     requires { ⌜ sectorNo w < sectorsOf g ⌝ }
     requires { ⌜ (id ≡ reservedId → ⊥) ⌝ }
     ensures { λ r. ⌜ r ≡ foundAs (blocksOf g) (imageOf (blocksOf g) (sectorsOf g) (now (image .entry))) (seek id (sectorsOf g) (next (sectorsOf g) (sectorNo w)) (sectorsOf g - 1) (viewsIn g (now (image .entry)))) ⌝ }

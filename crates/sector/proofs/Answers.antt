@@ -1,4 +1,4 @@
--- What the answers of the calls say in the rules' terms: a block that was read, a lead, an entry, and the reading by its lead.
+-- What the answers of the calls say in the rules' terms: a block that was read, a lead, an entry, and the header by its lead.
 -- Assumes nothing.
 use mathlib.Core.Path.{_≡_, refl, sym, ap, _∙_}
 use mathlib.Core.Bool.{Bool, true, false}
@@ -22,8 +22,8 @@ use Rattle.entry.specs.declared.Head.{Head}
 use Rattle.entry.specs.declared.Verdict.the-variants as verdict
 use Rattle.entry.specs.declared.Lead.the-variants as lead
 use Rattle.entry.specs.Answer.{scanOf, scanAs, verdictAs, leadAs}
-use Rattle.sector.specs.declared.Reading.the-variants.{Led, NoLead}
-use Rattle.sector.specs.Answer.{entriesAs, readingAs}
+use Rattle.sector.specs.declared.Header.the-variants.{Led, NoLead}
+use Rattle.sector.specs.Answer.{headerAs}
 
 -- ---- the blocks of a sector
 
@@ -73,14 +73,14 @@ wrong-lead block e = go (isLead block) refl e
     go true same e = let z : _≡_ {A = ℕ} 0 1 = cc in absurd (omega arith)
     go false same e = same
 
--- ---- the reading by its lead
+-- ---- the header by its lead
 
 module _ (B : ℕ) (sector : Sector) where
-  pub reading-led : {cycle : ℕ} → isLead (getD sector (B - 1) []) ≡ true → cycle ≡ cycleOf (getD sector (B - 1) [])
-      → Led (record { cycle = cycle; closed = isClose cycle (getD sector (B - 2) []); entries = entriesAs B cycle sector }) ≡ readingAs B sector
-  unfolding readingAs viewOf
-  reading-led led same = rw (same, led, if-true)
+  pub header-led : {cycle : ℕ} → isLead (getD sector (B - 1) []) ≡ true → cycle ≡ cycleOf (getD sector (B - 1) [])
+      → Led cycle (isClose cycle (getD sector (B - 2) [])) ≡ headerAs B sector
+  unfolding headerAs viewOf
+  header-led led same = rw (same, led, if-true)
 
-  pub reading-none : isLead (getD sector (B - 1) []) ≡ false → NoLead ≡ readingAs B sector
-  unfolding readingAs viewOf
-  reading-none wrong = rw (wrong, if-false)
+  pub header-none : isLead (getD sector (B - 1) []) ≡ false → NoLead ≡ headerAs B sector
+  unfolding headerAs viewOf
+  header-none wrong = rw (wrong, if-false)

@@ -1,7 +1,7 @@
 -- What a caller learns of a sector that was read: what it shows, how small it is, and that no entry ended the reading.
 -- Assumes nothing.
 use mathlib.Core.Path.{_≡_, refl, sym, ap, _∙_}
-use mathlib.Core.Bool.{true, false, false≢true}
+use mathlib.Core.Bool.{Bool, true, false, false≢true}
 use mathlib.Core.Logic.{⊎-elim}
 use Prim.Native.Nat.{ℕ, _-_, _<_, _≤_}
 use native.Mathlib.Omega.{arith}
@@ -15,23 +15,25 @@ use Rattle.entry.specs.declared.Scan.{Scan}
 use Rattle.entry.specs.declared.Head.{Head}
 use Rattle.entry.specs.declared.Verdict.the-variants as verdict
 use Rattle.entry.specs.Answer.{scanAs, Small}
-use Rattle.sector.specs.declared.Content.{Content}
-use Rattle.sector.specs.declared.Reading.the-variants.{Led, NoLead}
-use Rattle.sector.specs.Answer.{entriesAs, contentAs, readingAs}
+use Rattle.sector.specs.declared.Header.the-variants.{Led, NoLead}
+use Rattle.sector.specs.Answer.{entriesAs, headerAs}
 use Rattle.sector.proofs.Answers.{is-entry}
 use Rattle.sector.proofs.Standing.{Standing, stand-below}
 
 -- ---- what it shows
 
 module _ (B : ℕ) (sector : Sector) where
-  pub led-content : {content : Content} → readingAs B sector ≡ Led content → (viewOf B sector .led ≡ true) × (content ≡ contentAs B sector)
-  unfolding readingAs
-  led-content {content} e =
-      ⊎-elim (λ l. (l .0, sym (cc (l .1)))) (λ r. let z : _≡_ {A = ℕ} 0 1 = cc (r .1) in absurd (omega arith)) (if-cases (viewOf B sector .led) (Led (contentAs B sector)) NoLead e)
+  pub led-header : {cycle : ℕ} {closed : Bool} → headerAs B sector ≡ Led cycle closed
+      → (viewOf B sector .led ≡ true) × (cycle ≡ viewOf B sector .cycle) × (closed ≡ viewOf B sector .closed)
+  unfolding headerAs
+  led-header {cycle} {closed} e =
+      ⊎-elim (λ l. (l .0, sym (cc (l .1)), sym (cc (l .1)))) (λ r. let z : _≡_ {A = ℕ} 0 1 = cc (r .1) in absurd (omega arith))
+      (if-cases (viewOf B sector .led) (Led (viewOf B sector .cycle) (viewOf B sector .closed)) NoLead e)
 
-  pub not-led : readingAs B sector ≡ NoLead → viewOf B sector .led ≡ false
-  unfolding readingAs
-  not-led e = took-else (viewOf B sector .led) (Led (contentAs B sector)) NoLead (λ t. let z : _≡_ {A = ℕ} 0 1 = cc t in omega arith) e .0
+  pub not-led : headerAs B sector ≡ NoLead → viewOf B sector .led ≡ false
+  unfolding headerAs
+  not-led e =
+      took-else (viewOf B sector .led) (Led (viewOf B sector .cycle) (viewOf B sector .closed)) NoLead (λ t. let z : _≡_ {A = ℕ} 0 1 = cc t in omega arith) e .0
 
 -- ---- what ended the reading, and how small it is
 

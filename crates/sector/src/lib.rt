@@ -1,10 +1,10 @@
-// Reads one sector where it lies: its lead, its close, and what its entries come to.
+// Reads one sector where it lies: its lead and its close, and what its entries come to.
 ghost use mathlib.Core.Path.{_≡_};
 ghost use Prim.Native.Nat.{_*_};
 ghost use lib.ListN.{length};
 ghost use Rattle.rules.specs.Ground.{blockSize, sectorOf};
 ghost use Rattle.layout.specs.Geometry.{blocksOf, Sound};
-ghost use Rattle.sector.specs.Answer.{entriesAs, readingAs};
+ghost use Rattle.sector.specs.Answer.{entriesAs, headerAs};
 use entry::Lead;
 use entry::Scan;
 use entry::Verdict;
@@ -20,22 +20,15 @@ pub struct Entries {
     pub ended: Verdict,
 }
 
-// What a sector shows.
-pub struct Content {
-    pub cycle: u8,
-    pub closed: bool,
-    pub entries: Entries,
-}
-
-// The reading of a sector: what it shows, or that it has no right lead.
-pub enum Reading {
-    Led(Content),
+// The lead and the close of a sector: its cycle and whether it is closed, or that it has no right lead.
+pub enum Header {
+    Led(u8, bool),
     NoLead,
 }
 
 // "entries are taken from block B-3 downward and the reading ends at the first block that isn't an entry": there is one,
 // since entries and their data never take up all blocks.
-fn take_entries(sector: &[u8], g: Geometry, cycle: u8) -> Entries
+pub fn take_entries(sector: &[u8], g: Geometry, cycle: u8) -> Entries
     requires { ⌜ Sound g ⌝ }
     requires { ⌜ length (now sector) ≡ blocksOf g * blockSize ⌝ }
     ensures { λ r. ⌜ r ≡ entriesAs (blocksOf g) cycle (sectorOf (blocksOf g) (now (sector .entry))) ⌝ }
@@ -58,19 +51,15 @@ fn take_entries(sector: &[u8], g: Geometry, cycle: u8) -> Entries
     }
 }
 
-pub fn read(sector: &[u8], g: Geometry) -> Reading
+pub fn read_header(sector: &[u8], g: Geometry) -> Header
     requires { ⌜ Sound g ⌝ }
     requires { ⌜ length (now sector) ≡ blocksOf g * blockSize ⌝ }
-    ensures { λ r. ⌜ r ≡ readingAs (blocksOf g) (sectorOf (blocksOf g) (now (sector .entry))) ⌝ }
+    ensures { λ r. ⌜ r ≡ headerAs (blocksOf g) (sectorOf (blocksOf g) (now (sector .entry))) ⌝ }
 {
     let blocks = g.blocks();
     let Lead::Cycle(cycle) = look::lead(layout::block_bytes(sector, Block::new(blocks - 1))) else {
-        return Reading::NoLead;
+        return Header::NoLead;
     };
     let closed = look::is_close(layout::block_bytes(sector, Block::new(blocks - 2)), cycle);
-    Reading::Led(Content {
-        cycle: cycle,
-        closed: closed,
-        entries: take_entries(sector, g, cycle),
-    })
+    Header::Led(cycle, closed)
 }

@@ -21,8 +21,8 @@ use Rattle.rules.proofs.Ring.History.{changed-length, changed-here, changed-oth
 use Rattle.layout.specs.declared.Geometry.{Geometry}
 use Rattle.layout.specs.Geometry.{blocksOf, sectorsOf, Backs}
 use Rattle.image.specs.declared.Summary.{Summary}
-use Rattle.image.specs.Answer.{summaryAs, noSummary, viewsIn, Summarizes}
-use Rattle.image.proofs.Sectors.{views-count}
+use Rattle.image.specs.Answer.{summaryAs, noSummary, viewsIn, Summarizes, Outlines}
+use Rattle.image.proofs.Sectors.{views-count, outline-header}
 use Rattle.log.specs.declared.Budget.{Budget}
 use Rattle.turn.specs.declared.Turned.{Turned}
 use Rattle.log.specs.Budget.{Did, Consistent}
@@ -41,14 +41,21 @@ with-reopening v = refl
 
 -- ---- a summary by its sector's number
 
-module _ (g : Geometry) (bytes : List ℕ) (s : ℕ) {sectors : List Summary} (inside : s < sectorsOf g) (known : Summarizes (viewsIn g bytes) sectors) where
-  pub summary-of : getD sectors s noSummary ≡ summaryAs (viewAt (viewsIn g bytes) s)
-  summary-of = known .each s (omega (arith, views-count g bytes))
+module _ (g : Geometry) (bytes : List ℕ) (s : ℕ) (inside : s < sectorsOf g) where
+  cycle-at : viewAt (viewsIn g bytes) s .cycle ≡ viewOf (blocksOf g) (getD (blocksIn g bytes) s []) .cycle
+  cycle-at = ap (λ (v : View). v .cycle) (view-at (blocksOf g) (blocksIn g bytes) s (omega (arith, length-image (blocksOf g) (sectorsOf g) bytes)))
 
-  pub cycle-of : getD sectors s noSummary .cycle ≡ viewOf (blocksOf g) (getD (blocksIn g bytes) s []) .cycle
-  cycle-of =
-      ap (λ (x : Summary). x .cycle) summary-of
-      ∙ ap (λ (v : View). v .cycle) (view-at (blocksOf g) (blocksIn g bytes) s (omega (arith, length-image (blocksOf g) (sectorsOf g) bytes)))
+  module _ {sectors : List Summary} (known : Summarizes (viewsIn g bytes) sectors) where
+    pub summary-of : getD sectors s noSummary ≡ summaryAs (viewAt (viewsIn g bytes) s)
+    summary-of = known .each s (omega (arith, views-count g bytes))
+
+    pub cycle-of : getD sectors s noSummary .cycle ≡ viewOf (blocksOf g) (getD (blocksIn g bytes) s []) .cycle
+    cycle-of = ap (λ (x : Summary). x .cycle) summary-of ∙ cycle-at
+
+  -- an outline notes the cycle too
+  pub outlined-cycle : {sectors : List Summary} → Outlines (viewsIn g bytes) sectors → getD sectors s noSummary .cycle ≡ viewOf (blocksOf g) (getD (blocksIn g bytes) s []) .cycle
+  outlined-cycle known =
+      ap (λ (x : Summary). x .cycle) (known .each s (omega (arith, views-count g bytes))) ∙ outline-header (viewAt (viewsIn g bytes) s) .0 ∙ cycle-at
 
 -- ---- one sector's summary renewed
 

@@ -9,7 +9,6 @@ use Rattle.rules.specs.Meaning.{next}
 use Rattle.rules.proofs.Ring.Order.{next-lt}
 use Rattle.layout.specs.Numbers.{sectorNo}
 use Rattle.layout.specs.Geometry.{sectorsOf}
-use Rattle.image.specs.declared.Summary.{Summary}
 use Rattle.image.specs.Answer.{viewsIn}
 use Rattle.search.specs.Search.{newestAs}
 use Rattle.image.proofs.Sectors.{views-count}
@@ -46,25 +45,25 @@ loop-holds c =
 number-requires : tie.Need-number-requires Inv-loop μ-loop
 number-requires c κs = search needs
 
-mul-entries : tie.Need-mul-entries Inv-loop μ-loop
-mul-entries c = omega (arith, low c)
+mul-newest-at : tie.Need-mul-newest-at Inv-loop μ-loop
+mul-newest-at c = omega (arith, low c)
 
-element-copy-out-entries : tie.Need-element-copy-out-entries Inv-loop μ-loop
-element-copy-out-entries c = omega (arith, low c)
+array-copy-out-newest-at : tie.Need-array-copy-out-newest-at Inv-loop μ-loop
+array-copy-out-newest-at c = omega (arith, low c)
 
 newest-at-requires : tie.Need-newest-at-requires Inv-loop μ-loop
 newest-at-requires c κs =
-    let k = c .before .before .before .before .before in
-    let inside = c .before .before .loop .inv .inside in
-    let noted = k .pre .1 .0 .each (c .before .before .loop .s .0) (omega (arith, views-count (k .args .g) (k .args .image .now), inside)) in
-    (k .pre .0, (inside, (rw (c .number .ensures) (ap (λ (x : Summary). x .entries) noted), k .pre .1 .1 .1)))
+    let k = c .before .before .before .before .before .before in
+    let inside = c .before .before .before .loop .inv .inside in
+    let noted = k .pre .1 .0 .each (c .before .before .before .loop .s .0) (omega (arith, views-count (k .args .g) (k .args .image .now), inside)) in
+    (k .pre .0, (inside, (rw (c .before .number .ensures) noted, k .pre .1 .1 .1)))
 
 enum-known-hit : tie.Need-enum-known-hit Inv-loop μ-loop
 enum-known-hit c = search needs
 
 returns : tie.Need-returns Inv-loop μ-loop
 returns c =
-    let t = c .before .before .before .before .before in
+    let t = c .before .before .before .before .before .before in
     let named = hit-at _ (sym (c .before .before .before .newest-at .ensures) ∙ c .before .hit .given .1) in
     ap newestAs (sym (seeking-found (t .before .loop .inv) (t .loop-test .taken) named))
 
@@ -72,17 +71,17 @@ enum-told : tie.Need-enum-told Inv-loop μ-loop
 enum-told c = search needs
 
 previous-sector-requires : tie.Need-previous-sector-requires Inv-loop μ-loop
-previous-sector-requires c κs = c .before .before .before .before .before .loop .inv .inside
+previous-sector-requires c κs = c .before .before .before .before .before .before .loop .inv .inside
 
 sub-left-2 : tie.Need-sub-left-2 Inv-loop μ-loop
-sub-left-2 c = c .before .before .before .before .before .loop-test .taken
+sub-left-2 c = c .before .before .before .before .before .before .loop-test .taken
 
 loop-less : tie.Need-loop-less Inv-loop μ-loop
-loop-less c = omega (arith, c .before .before .before .before .before .loop-test .taken)
+loop-less c = omega (arith, c .before .before .before .before .before .before .loop-test .taken)
 
 loop-again : tie.Need-loop-again Inv-loop μ-loop
 loop-again c =
-    let t = c .before .before .before .before .before in
+    let t = c .before .before .before .before .before .before in
     let k = t .before .before .before .before in
     let other = hit-nothing _ (sym (c .before .before .before .newest-at .ensures) ∙ c .before .enum-told .given .1) in
     seeking-next (t .before .loop .inv) (next-lt _ _ (k .pre .1 .1 .0)) (t .loop-test .taken) other (c .previous-sector .ensures)
@@ -102,8 +101,8 @@ newest-entry-spec =
     sub-left
     loop-holds
     number-requires
-    mul-entries
-    element-copy-out-entries
+    mul-newest-at
+    array-copy-out-newest-at
     newest-at-requires
     enum-known-hit
     returns

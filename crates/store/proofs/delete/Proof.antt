@@ -10,7 +10,7 @@ use Rattle.layout.specs.Geometry.{sizesOf, Backs}
 use Rattle.layout.specs.Numbers.{sectorNo}
 use Rattle.layout.proofs.Laws.{legal-backs, from-sizes}
 use Rattle.image.specs.Answer.{viewsIn}
-use Rattle.image.proofs.Laws.{survey-state, survey-summaries}
+use Rattle.image.proofs.Laws.{survey-state, survey-outlines}
 use Rattle.answer.specs.declared.Refusal.the-variants as refusal
 use Rattle.answer.specs.Answer.{refusalOf, Leaves}
 use Rattle.store.specs.State.{openAs}
@@ -83,7 +83,7 @@ delete-requires : tie.Need-delete-requires
 delete-requires c κs =
     let o = c .before .before .before .before in
     let at-rest = rest (c .before .before) in
-    (backs (o .before .before .before .before .before), (record { summaries = survey-summaries (o .before .before .survey .ensures) at-rest; rest = at-rest }, o .before .before .before .before .if1 .left))
+    (backs (o .before .before .before .before .before), (record { outlines = survey-outlines (o .before .before .survey .ensures) at-rest; rest = at-rest }, o .before .before .before .before .if1 .left))
 
 enum-known-refusal : tie.Need-enum-known-refusal
 enum-known-refusal c = search needs

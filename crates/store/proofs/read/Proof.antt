@@ -12,7 +12,7 @@ use Rattle.layout.specs.Geometry.{sizesOf, Backs}
 use Rattle.layout.specs.Numbers.{sectorNo}
 use Rattle.layout.proofs.Laws.{legal-backs}
 use Rattle.image.specs.Answer.{viewsIn}
-use Rattle.image.proofs.Laws.{survey-state, survey-summaries, rest-inside}
+use Rattle.image.proofs.Laws.{survey-state, survey-outlines, rest-inside}
 use Rattle.answer.specs.Answer.{refusalOf, replyNumbersOf}
 use Rattle.store.specs.State.{openAs}
 use Rattle.store.proofs.Sizes.{open-working}
@@ -88,9 +88,9 @@ read-requires c κs =
     let l = o .before .before .before .before in
     let a = l .before .before .before .before .before .before .args in
     let at-rest = rest (c .before .before) in
-    let summaries = survey-summaries (o .before .before .survey .ensures) at-rest in
+    let outlines = survey-outlines (o .before .before .survey .ensures) at-rest in
     let inside = rest-inside (l .before .g .given .0 .0) (a .image .now) (sectorNo (c .before .before .w .given .0 .0)) at-rest in
-    (backs l, (summaries, (inside, o .before .before .before .if1 .left)))
+    (backs l, (outlines, (inside, o .before .before .before .if1 .left)))
 
 enum-known-refusal : tie.Need-enum-known-refusal
 enum-known-refusal c = search needs

@@ -15,7 +15,7 @@ use Rattle.layout.specs.Geometry.{blocksOf, sizesOf, Backs}
 use Rattle.layout.specs.Numbers.{sectorNo}
 use Rattle.layout.proofs.Laws.{legal-backs, from-sizes}
 use Rattle.image.specs.Answer.{viewsIn}
-use Rattle.image.proofs.Laws.{survey-state, survey-summaries}
+use Rattle.image.proofs.Laws.{survey-state, survey-outlines}
 use Rattle.answer.specs.declared.Refusal.the-variants as refusal
 use Rattle.answer.specs.Answer.{refusalOf, Leaves}
 use Rattle.store.specs.State.{openAs}
@@ -133,7 +133,7 @@ write-requires c κs =
     let at-rest = rest (c .before .before) in (
       backs l,
       (
-        record { summaries = survey-summaries (o .before .before .survey .ensures) at-rest; rest = at-rest },
+        record { outlines = survey-outlines (o .before .before .survey .ensures) at-rest; rest = at-rest },
         (d .before .before .if1 .left, (omega (arith, d .before .if2 .left), (needed d, omega (arith, o .before .before .before .before .if3 .left, o .before .before .before .before .before .value-limit .ensures)))),
       ),
     )

@@ -21,14 +21,14 @@ returns : tie.Need-returns
 unfolding stateBy
 returns c =
     record {
-      status = λ views count noted.
+      status = λ views count noted unclosed.
           rw (empty-true _ .0 (sym (c .before .before .before .before .is-empty .ensures) ∙ c .before .before .before .if1 .taken), c .which .ensures);
     }
 
 returns-2 : tie.Need-returns-2
 returns-2 c =
     record {
-      status = λ views count noted.
+      status = λ views count noted unclosed.
           rw (empty-true _ .0 (sym (c .before .before .before .is-empty .ensures) ∙ c .before .before .if1 .taken))
           (not-one views _ (sym (c .before .is-one .ensures) ∙ c .if2 .left));
     }
@@ -45,13 +45,13 @@ state-with-requires c κs =
     (k .pre .0, k .pre .1 _ (c .which2 .ensures))
 
 returns-3 : tie.Need-returns-3
-returns-3 c = record { status = λ views count noted. rw (c .before .which2 .ensures) (c .state-with .ensures .status views count noted) }
+returns-3 c = record { status = λ views count noted unclosed. rw (c .before .which2 .ensures) (c .state-with .ensures .status views count noted unclosed) }
 
 returns-4 : tie.Need-returns-4
 unfolding stateBy
 returns-4 c =
     record {
-      status = λ views count noted.
+      status = λ views count noted unclosed.
           let some = sym (c .before .before .before .is-empty .ensures) ∙ c .before .before .if1 .left in
           let not-one = sym (c .before .is-one2 .ensures) ∙ c .if3 .left in
           rw (two-or-more _ some not-one .3);

@@ -38,7 +38,7 @@ is-empty-requires c κs = search needs
 
 returns : tie.Need-returns
 unfolding stateBy
-returns c = record { status = λ views count noted. rw (empty-true _ .0 (sym (c .before .is-empty .ensures) ∙ c .if1 .taken)) }
+returns c = record { status = λ views count noted unclosed. rw (empty-true _ .0 (sym (c .before .is-empty .ensures) ∙ c .if1 .taken)) }
 
 is-one-requires : tie.Need-is-one-requires
 is-one-requires c κs = search needs
@@ -47,7 +47,7 @@ returns-2 : tie.Need-returns-2
 unfolding stateBy
 returns-2 c =
     record {
-      status = λ views count noted.
+      status = λ views count noted unclosed.
           let some = sym (c .before .before .before .is-empty .ensures) ∙ c .before .before .if1 .left in
           let not-one = sym (c .before .is-one .ensures) ∙ not-true _ (c .if2 .taken) in
           rw (two-or-more _ some not-one .3);
@@ -68,7 +68,7 @@ number-requires-2 c κs = search needs
 returns-3 : tie.Need-returns-3
 returns-3 c =
     record {
-      status = λ views count noted.
+      status = λ views count noted unclosed.
           let k = c .before .before .before .before .before .before .before .before .before in
           not-next views (k .args .w .0) _ (c .before .before .before .before .which .ensures) (λ e. c .if3 .taken (
           c .before .before .before .number .ensures ∙ e ∙ ap (λ (n : ℕ). next n (k .args .w .0)) count
@@ -85,17 +85,17 @@ element-copy-out-used c = omega (arith, spare-inside c)
 returns-4 : tie.Need-returns-4
 returns-4 c =
     record {
-      status = λ views count noted.
+      status = λ views count noted unclosed.
           let k = c .before .before .before .before .before .before .before .before .before .before in
-          spare-used views (k .args .w .0) _ (spare-is (c .before)) noted (omega (arith, spare-inside (c .before) .0)) (c .if4 .taken);
+          spare-used views (k .args .w .0) _ (spare-is (c .before)) noted (omega (arith, spare-inside (c .before) .0)) (unclosed _ (spare-is (c .before))) (c .if4 .taken);
     }
 
 returns-5 : tie.Need-returns-5
 returns-5 c =
     record {
-      status = λ views count noted.
+      status = λ views count noted unclosed.
           let k = c .before .before .before .before .before .before .before .before .before .before in
-          spare-unused views (k .args .w .0) _ (spare-is (c .before)) noted (omega (arith, spare-inside (c .before) .0))
+          spare-unused views (k .args .w .0) _ (spare-is (c .before)) noted (omega (arith, spare-inside (c .before) .0)) (unclosed _ (spare-is (c .before)))
           (follows (c .before) ∙ ap (λ (n : ℕ). next n (k .args .w .0)) (sym count)) (c .if4 .left);
     }
 

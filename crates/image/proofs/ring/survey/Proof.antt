@@ -11,8 +11,8 @@ use Rattle.rules.specs.Reading.{View}
 use Rattle.rules.specs.Meaning.{viewAt}
 use Rattle.layout.specs.Numbers.{sectorNo}
 use Rattle.image.specs.Answer.{statusAs, lookAs, viewsIn}
-use Rattle.image.proofs.Sectors.{views-count, led-summary, no-lead}
-use Rattle.image.proofs.Surveyed.{Surveyed, surveyed-none, surveyed-more, surveyed-summaries, surveyed-one, surveyed-state, not-all-led, no-store}
+use Rattle.image.proofs.Sectors.{views-count, led-outline, no-lead}
+use Rattle.image.proofs.Surveyed.{Surveyed, surveyed-none, surveyed-more, surveyed-outlines, surveyed-open, surveyed-one, surveyed-state, not-all-led, no-store}
 use Rattle.image.proofs.ring.survey.Statement.{statement}
 use Rattle.image.proofs.ring.survey.Tie as tie
 
@@ -47,9 +47,9 @@ all-read c =
     omega (arith, c .loop-test .left, c .before .before .before .before .before .sectors .ensures, views-count (k .args .g) (k .args .image .now))
 
 -- the look is at sector s
-seen : (c : tie.After-sector-summary Inv-loop μ-loop)
-    → c .sector-summary .result ≡ lookAs (viewAt (viewsAt (c .before .before .before)) (c .before .before .before .loop .s))
-seen c = rw (ap sectorNo (c .before .new .ensures)) at (c .sector-summary .ensures)
+seen : (c : tie.After-sector-outline Inv-loop μ-loop)
+    → c .sector-outline .result ≡ lookAs (viewAt (viewsAt (c .before .before .before)) (c .before .before .before .loop .s))
+seen c = rw (ap sectorNo (c .before .new .ensures)) at (c .sector-outline .ensures)
 
 sectors-requires : tie.Need-sectors-requires Inv-loop μ-loop
 sectors-requires c κs = search needs
@@ -69,13 +69,13 @@ loop-holds c = surveyed-none _ refl (c .before .none .ensures) (c .none2 .ensure
 new-requires : tie.Need-new-requires Inv-loop μ-loop
 new-requires c κs = search needs
 
-sector-summary-requires : tie.Need-sector-summary-requires Inv-loop μ-loop
-sector-summary-requires c κs =
+sector-outline-requires : tie.Need-sector-outline-requires Inv-loop μ-loop
+sector-outline-requires c κs =
     let k = c .before .before .before .before .before .before .before .before in
     (k .pre, omega (arith, ap sectorNo (c .new .ensures), inside (c .before), views-count (k .args .g) (k .args .image .now)))
 
-enum-known-summary : tie.Need-enum-known-summary Inv-loop μ-loop
-enum-known-summary c = search needs
+enum-known-outline : tie.Need-enum-known-outline Inv-loop μ-loop
+enum-known-outline c = search needs
 
 enum-told : tie.Need-enum-told Inv-loop μ-loop
 enum-told c = search needs
@@ -107,7 +107,7 @@ loop-less c = omega (arith, c .before .before .before .before .before .before .b
 loop-again : tie.Need-loop-again Inv-loop μ-loop
 loop-again c =
     let t = c .before .before .before .before .before .before .before in
-    let told = led-summary _ (sym (seen (c .before .before .before .before .before)) ∙ c .before .before .before .summary .given .1) in
+    let told = led-outline _ (sym (seen (c .before .before .before .before .before)) ∙ c .before .before .before .outline .given .1) in
     let at = ap sectorNo (c .before .new2 .ensures) in
     surveyed-more _ (few (t .before)) (t .before .loop .inv) (inside t) (told .0) (told .1) (rw at at (c .with .ensures .0)) (rw at at (c .with .ensures .1))
 
@@ -121,9 +121,9 @@ returns-2 c =
     let k = c .before .before .before .before .before .before .before .before in
     let read = all-read (c .before) in
     let inv = c .before .before .loop .inv in
-    let sectors = surveyed-summaries _ inv read in
+    let sectors = surveyed-outlines _ inv read in
     record {
-      status = c .decide .ensures .status _ (views-count (k .args .g) (k .args .image .now)) sectors ∙ ap statusAs (surveyed-state _ inv read);
+      status = c .decide .ensures .status _ (views-count (k .args .g) (k .args .image .now)) sectors (surveyed-open _ inv read) ∙ ap statusAs (surveyed-state _ inv read);
       sectors = λ e. sectors;
     }
 
@@ -139,8 +139,8 @@ survey-spec =
     none-requires-2
     loop-holds
     new-requires
-    sector-summary-requires
-    enum-known-summary
+    sector-outline-requires
+    enum-known-outline
     enum-told
     returns
     mul-sectors

@@ -4,7 +4,9 @@ use mathlib.Core.Path.{_≡_, sym, ap, subst, _∙_}
 use mathlib.Core.Option.{Option}
 use Prim.Native.Nat.{ℕ, _<_}
 use native.Mathlib.Omega.{arith}
+use lib.ListN.{getD}
 use borrow.Author.Needs.{needs}
+use Rattle.rules.specs.Ground.{maxSectors}
 use Rattle.rules.specs.Meaning.{State, notReopened, midTurn, Is, stateOf}
 use Rattle.rules.specs.Stores.{nothing, reopen, mount}
 use Rattle.rules.proofs.Ring.States.{state-is}
@@ -12,13 +14,14 @@ use Rattle.rules.proofs.Ring.Order.{next-lt}
 use Rattle.layout.specs.Numbers.{sectorNo}
 use Rattle.layout.specs.Geometry.{blocksOf, sectorsOf}
 use Rattle.image.specs.declared.Status.{Status}
-use Rattle.image.specs.Answer.{statusOf, viewsIn}
-use Rattle.image.proofs.Laws.{survey-state, survey-summaries}
+use Rattle.image.specs.Answer.{noSummary, statusOf, viewsIn}
+use Rattle.image.proofs.Laws.{survey-state, survey-outlines}
 use Rattle.image.proofs.Sectors.{views-count}
 use Rattle.log.specs.Budget.{Did}
 use Rattle.turn.specs.Turn.{mountStores}
 use Rattle.log.proofs.Laws.{did-none}
 use Rattle.append.proofs.Appending.{blocksIn}
+use Rattle.turn.proofs.Stepping.{outlined-cycle}
 use Rattle.turn.proofs.mount.mount.Statement.{statement}
 use Rattle.turn.proofs.mount.mount.Tie as tie
 
@@ -48,15 +51,37 @@ enum-known-status : tie.Need-enum-known-status
 enum-known-status c = search needs
 
 next-sector-requires : tie.Need-next-sector-requires
-next-sector-requires c κs = working-inside (c .before .before)
+next-sector-requires c κs = working-inside (c .before)
 
-reopen-in-requires : tie.Need-reopen-in-requires
-reopen-in-requires c κs =
-    let t = c .before .before .before in
+-- the sector after it is one too, and its outline notes its cycle
+oldest-inside : (n : tie.After-number) → let k = n .before .before .before .before .before .before .before in
+    (sectorNo (n .before .next-sector .result) < sectorsOf (k .args .g)) × (n .number .result < maxSectors)
+oldest-inside n =
+    let t = n .before .before .before in
     let k = t .before .before .before .before in
-    let S : ℕ = sectorsOf (k .args .g) in
-    let inside : sectorNo (c .next-sector .result) < S = omega (arith, c .next-sector .ensures, next-lt S (sectorNo (t .status .given .0 .0)) (working-inside t)) in
-    (k .pre .0, (survey-summaries (k .pre .1 .0) (state-by k (t .status .given .1)), (inside, k .pre .1 .1)))
+    let inside : sectorNo (n .before .next-sector .result) < sectorsOf (k .args .g) =
+    omega (arith, n .before .next-sector .ensures, next-lt (sectorsOf (k .args .g)) (sectorNo (t .status .given .0 .0)) (working-inside t)) in
+    (inside, omega (arith, n .number .ensures, inside, k .pre .0 .sound .sectors-to))
+
+number-requires : tie.Need-number-requires
+number-requires c κs = search needs
+
+mul-reopen : tie.Need-mul-reopen
+mul-reopen c = omega (arith, oldest-inside (c .before))
+
+element-copy-out-reopen : tie.Need-element-copy-out-reopen
+element-copy-out-reopen c = oldest-inside (c .before) .1
+
+reopen-requires : tie.Need-reopen-requires
+reopen-requires c κs =
+    let n = c .before in
+    let t = n .before .before .before in
+    let k = t .before .before .before .before in
+    let s : ℕ = sectorNo (n .before .next-sector .result) in
+    let inside = oldest-inside n .0 in
+    let outlines = survey-outlines (k .pre .1 .0) (state-by k (t .status .given .1)) in
+    let cycle = ap (λ (i : ℕ). getD (k .args .survey .sectors) i noSummary .cycle) (n .number .ensures) ∙ outlined-cycle (k .args .g) (k .args .image .now) s inside outlines in
+    (k .pre .0, (inside, (cycle, k .pre .1 .1)))
 
 enum-known-status-2 : tie.Need-enum-known-status-2
 enum-known-status-2 c = search needs
@@ -65,7 +90,7 @@ mount-turn-requires : tie.Need-mount-turn-requires
 mount-turn-requires c κs =
     let t = c .before .before in
     let k = t .before .before .before .before in
-    (k .pre .0, (survey-summaries (k .pre .1 .0) (state-by k (t .status2 .given .1)), (unfinished-inside t, k .pre .1 .1)))
+    (k .pre .0, (survey-outlines (k .pre .1 .0) (state-by k (t .status2 .given .1)), (unfinished-inside t, k .pre .1 .1)))
 
 enum-told-2 : tie.Need-enum-told-2
 enum-told-2 c = search needs
@@ -83,14 +108,14 @@ same-length c = search needs
 returns-2 : tie.Need-returns-2
 unfolding mount
 returns-2 c =
-    let r = c .before .before .before in
-    let n = r .before in
+    let r = c .before .before in
+    let n = r .before .before in
     let t = n .before .before .before in
     let k = t .before .before .before .before in
-    subst (λ (o : Option State). Did (k .args .g) (k .args .image .now) (mountStores (blocksOf (k .args .g)) (sectorsOf (k .args .g)) o (blocksIn (k .args .g) (k .args .image .now))) (k .args .budget) (r .reopen-in .last .0) (r .reopen-in .result .budget))
+    subst (λ (o : Option State). Did (k .args .g) (k .args .image .now) (mountStores (blocksOf (k .args .g)) (sectorsOf (k .args .g)) o (blocksIn (k .args .g) (k .args .image .now))) (k .args .budget) (r .reopen .last .0) (r .reopen .result))
     (sym (state-by k (t .status .given .1)))
-    (subst (λ (s : ℕ). Did (k .args .g) (k .args .image .now) (reopen (blocksOf (k .args .g)) s (blocksIn (k .args .g) (k .args .image .now))) (k .args .budget) (r .reopen-in .last .0) (r .reopen-in .result .budget))
-    (n .next-sector .ensures) (r .reopen-in .ensures .did))
+    (subst (λ (s : ℕ). Did (k .args .g) (k .args .image .now) (reopen (blocksOf (k .args .g)) s (blocksIn (k .args .g) (k .args .image .now))) (k .args .budget) (r .reopen .last .0) (r .reopen .result))
+    (n .before .next-sector .ensures) (r .reopen .ensures))
 
 same-length-2 : tie.Need-same-length-2
 same-length-2 c = search needs
@@ -118,7 +143,10 @@ mount-spec =
     enum-told
     enum-known-status
     next-sector-requires
-    reopen-in-requires
+    number-requires
+    mul-reopen
+    element-copy-out-reopen
+    reopen-requires
     enum-known-status-2
     mount-turn-requires
     enum-told-2

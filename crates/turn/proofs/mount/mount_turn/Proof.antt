@@ -1,4 +1,4 @@
--- `mount::mount_turn`: the reopening, and where it was not cut, the rest of the turn.
+-- `mount::mount_turn`: all sectors are read, then the reopening, and where it was not cut, the rest of the turn.
 -- Assumes nothing.
 use mathlib.Core.Path.{_≡_, ap, _∙_}
 use mathlib.Core.List.{List, []}
@@ -24,14 +24,17 @@ use Rattle.turn.proofs.mount.mount_turn.Statement.{statement}
 use Rattle.turn.proofs.mount.mount_turn.Tie as tie
 
 -- the reopening shows at once
-opening : (d : tie.After-reopen-in) → let k = d .before .before .before in
+opening : (d : tie.After-reopen-in) → let k = d .before .before .before .before .before in
     IsAtomic (blocksOf (k .args .g)) (sectorsOf (k .args .g)) (reopen (blocksOf (k .args .g)) (sectorNo (k .args .u))) (blocksIn (k .args .g) (k .args .image .now))
     (changed reopenedView (sectorNo (k .args .u)) (viewsIn (k .args .g) (k .args .image .now)))
 opening d =
-    let k = d .before .before .before in
-    let typed = at-each (λ b. b < 256) 0 (k .args .image .now) (λ j h. omega (arith, d .before .before .slice-known .given j)) in
+    let k = d .before .before .before .before .before in
+    let typed = at-each (λ b. b < 256) 0 (k .args .image .now) (λ j h. omega (arith, d .before .before .before .before .slice-known .given j)) in
     let whole = image-of-bytes (blocksOf (k .args .g)) (sectorsOf (k .args .g)) (k .args .image .now) typed (k .pre .0 .sized) in
     reopen-atomic (k .pre .0 .sound .blocks-from) whole (k .pre .1 .1 .0)
+
+complete-requires : tie.Need-complete-requires
+complete-requires c κs = search needs
 
 reopen-in-requires : tie.Need-reopen-in-requires
 reopen-in-requires c κs = search needs
@@ -42,7 +45,7 @@ same-length c = search needs
 returns : tie.Need-returns
 returns c =
     let d = c .before .before .before in
-    let k = d .before .before .before in
+    let k = d .before .before .before .before .before in
     let u : ℕ = sectorNo (k .args .u) in
     went-cut (reopen (blocksOf (k .args .g)) u) (finishTurn (blocksOf (k .args .g)) (sectorsOf (k .args .g)) u) (blocksIn (k .args .g) (k .args .image .now)) (k .pre .1 .1 .1) (d .reopen-in .ensures) (c .if1 .taken)
 
@@ -50,7 +53,7 @@ finish-turn-requires : tie.Need-finish-turn-requires
 finish-turn-requires c κs =
     let i = c .before .before .before in
     let d = i .before .before .before in
-    let k = d .before .before .before in
+    let k = d .before .before .before .before .before in
     let u : ℕ = sectorNo (k .args .u) in
     let went = d .reopen-in .ensures in
     let views : List View = viewsIn (k .args .g) (k .args .image .now) in
@@ -67,7 +70,7 @@ returns-2 c =
     let f = c .before .before in
     let i = f .before .before .before .before in
     let d = i .before .before .before in
-    let k = d .before .before .before in
+    let k = d .before .before .before .before .before in
     let B : ℕ = blocksOf (k .args .g) in
     let u : ℕ = sectorNo (k .args .u) in
     let went = d .reopen-in .ensures in
@@ -76,4 +79,4 @@ returns-2 c =
 pub mount-turn-spec : {M : Type 1} → statement M
 mount-turn-spec =
     tie.close
-    (tie.spec reopen-in-requires same-length returns finish-turn-requires same-length-2 returns-2)
+    (tie.spec complete-requires reopen-in-requires same-length returns finish-turn-requires same-length-2 returns-2)

@@ -1,4 +1,4 @@
--- `sector::read`: the lead is block B-1, the close block B-2.
+-- `sector::read_header`: the lead is block B-1, the close block B-2.
 -- Assumes nothing.
 use mathlib.Core.Path.{sym, ap, _∙_}
 use Prim.Native.Nat.{_-_}
@@ -6,9 +6,9 @@ use native.Mathlib.Omega.{arith}
 use borrow.Author.Needs.{needs}
 use Rattle.layout.specs.Geometry.{blocksOf}
 use Rattle.layout.specs.Numbers.{blockNo}
-use Rattle.sector.proofs.Answers.{BlockRead, block-read, right-lead, wrong-lead, reading-led, reading-none}
-use Rattle.sector.proofs.read.Statement.{statement}
-use Rattle.sector.proofs.read.Tie as tie
+use Rattle.sector.proofs.Answers.{BlockRead, block-read, right-lead, wrong-lead, header-led, header-none}
+use Rattle.sector.proofs.read_header.Statement.{statement}
+use Rattle.sector.proofs.read_header.Tie as tie
 
 -- what was read are the lead and the close
 lead-there : (c : tie.After-block-bytes)
@@ -51,7 +51,7 @@ enum-told c = search needs
 returns : tie.Need-returns
 returns c =
     let wrong = wrong-lead _ (sym (c .before .before .lead .ensures) ∙ c .enum-told .given .1) in
-    reading-none _ _ (rw (lead-there (c .before .before .before) .block) at wrong)
+    header-none _ _ (rw (lead-there (c .before .before .before) .block) at wrong)
 
 sub-new-2 : tie.Need-sub-new-2
 sub-new-2 c = search needs
@@ -65,18 +65,15 @@ block-bytes-requires-2 c κs = omega (arith, ap blockNo (c .new2 .ensures))
 is-close-requires : tie.Need-is-close-requires
 is-close-requires c κs = close-there c .size
 
-take-entries-requires : tie.Need-take-entries-requires
-take-entries-requires c κs = search needs
-
 returns-2 : tie.Need-returns-2
 returns-2 c =
-    let there = lead-there (c .before .before .before .before .before .before .before .before) .block in
-    let led = right-lead _ (sym (c .before .before .before .before .before .before .before .lead .ensures) ∙ c .before .before .before .before .before .cycle .given .1) in
-    rw (c .take-entries .ensures, c .before .is-close .ensures, close-there (c .before .before) .block)
-    (reading-led _ _ (rw there at (led .0)) (rw there at (led .1)))
+    let there = lead-there (c .before .before .before .before .before .before .before) .block in
+    let led = right-lead _ (sym (c .before .before .before .before .before .before .lead .ensures) ∙ c .before .before .before .before .cycle .given .1) in
+    rw (c .is-close .ensures, close-there (c .before) .block)
+    (header-led _ _ (rw there at (led .0)) (rw there at (led .1)))
 
-pub read-spec : {M : Type 1} → statement M
-read-spec =
+pub read-header-spec : {M : Type 1} → statement M
+read-header-spec =
     tie.close
     (tie.spec
     blocks-requires
@@ -91,5 +88,4 @@ read-spec =
     new-requires-2
     block-bytes-requires-2
     is-close-requires
-    take-entries-requires
     returns-2)
