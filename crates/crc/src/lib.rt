@@ -1,5 +1,5 @@
 // Both checksums of an entry, at one table lookup a byte.
-mod tables;
+pub mod tables;
 
 ghost use mathlib.Core.Path.{_≡_};
 ghost use Rattle.rules.specs.Checksum.{crc, step8, step32, crc8 as crc8Of, crc32 as crc32Of};
@@ -9,7 +9,15 @@ ghost use Rattle.crc.specs.Table.{IsTable};
 pub fn crc8(bytes: &[u8]) -> u8
     ensures { λ r. ⌜ r ≡ crc8Of (now (bytes .entry)) ⌝ }
 {
-    update8(&tables::CRC8, 0, bytes)
+    crc8_by(&tables::CRC8, bytes)
+}
+
+// The same by a table that is lent: who takes many in a row sets it up once, not once for each.
+pub fn crc8_by(table: &[u8; 256], bytes: &[u8]) -> u8
+    requires { ⌜ IsTable step8 (now table) ⌝ }
+    ensures { λ r. ⌜ r ≡ crc8Of (now (bytes .entry)) ⌝ }
+{
+    update8(table, 0, bytes)
 }
 
 // "the common IEEE one"

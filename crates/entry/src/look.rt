@@ -4,7 +4,9 @@ ghost use Prim.Native.Nat.{_≤_, _<_, _^_};
 ghost use lib.ListN.{length};
 ghost use Rattle.rules.specs.Notation as notation;
 ghost use Rattle.rules.specs.Ground.{blockSize};
+ghost use Rattle.rules.specs.Checksum.{step8};
 ghost use Rattle.rules.specs.Look as rule;
+ghost use Rattle.crc.specs.Table.{IsTable};
 ghost use Rattle.layout.specs.Geometry.{blocksOf, Sound};
 ghost use Rattle.entry.specs.Answer.{scanOf, scanAs, headOf, lengthOf, Small, formAs, formLength, verdictAs, leadAs};
 use crate::ERASED;
@@ -15,6 +17,7 @@ use crate::Lead;
 use crate::SMALL;
 use crate::Scan;
 use crate::Verdict;
+use crc::tables::CRC8;
 use layout::Geometry;
 
 // Where the fields of a block begin: cycle, length, ID, body, and the second number of a body.
@@ -52,7 +55,16 @@ fn is_checked(block: &[u8]) -> bool
     requires { ⌜ length (now block) ≡ blockSize ⌝ }
     ensures { λ r. ⌜ r ≡ rule.isChecked (now (block .entry)) ⌝ }
 {
-    block[0] == crc::crc8(&block[1..])
+    is_checked_by(&CRC8, block)
+}
+
+// The same by a table that is lent.
+fn is_checked_by(table: &[u8; 256], block: &[u8]) -> bool
+    requires { ⌜ IsTable step8 (now table) ⌝ }
+    requires { ⌜ length (now block) ≡ blockSize ⌝ }
+    ensures { λ r. ⌜ r ≡ rule.isChecked (now (block .entry)) ⌝ }
+{
+    block[0] == crc::crc8_by(table, &block[1..])
 }
 
 // The data blocks of a value of this length.
@@ -157,9 +169,20 @@ fn head_of(block: &[u8], data_end: usize) -> Form
     Form::Wrong
 }
 
-// The verdict on a block of a sector of this cycle, after what was read before it. The cycle byte is compared before
-// byte 0 is worked out.
+// The verdict on a block of a sector of this cycle, after what was read before it.
 pub fn block(block: &[u8], g: Geometry, cycle: u8, before: Scan) -> Verdict
+    requires { ⌜ length (now block) ≡ blockSize ⌝ }
+    requires { ⌜ Sound g ⌝ }
+    requires { ⌜ Small before ⌝ }
+    ensures { λ r. ⌜ r ≡ verdictAs (scanOf before) (rule.look (blocksOf g) cycle (scanOf before) (now (block .entry))) ⌝ }
+{
+    block_by(&CRC8, block, g, cycle, before)
+}
+
+// The same by a table that is lent, so that it is set up once a sector, not once a block. The cycle byte is compared
+// before byte 0 is worked out.
+pub fn block_by(table: &[u8; 256], block: &[u8], g: Geometry, cycle: u8, before: Scan) -> Verdict
+    requires { ⌜ IsTable step8 (now table) ⌝ }
     requires { ⌜ length (now block) ≡ blockSize ⌝ }
     requires { ⌜ Sound g ⌝ }
     requires { ⌜ Small before ⌝ }
@@ -171,7 +194,7 @@ pub fn block(block: &[u8], g: Geometry, cycle: u8, before: Scan) -> Verdict
     if block[CYCLE_AT] != cycle {
         return Verdict::OtherCycle;
     }
-    if !is_checked(block) {
+    if !is_checked_by(table, block) {
         return Verdict::WrongCheck;
     }
     let data_end = before.data_end;

@@ -5,6 +5,7 @@ ghost use lib.ListN.{length};
 ghost use Rattle.rules.specs.Ground.{blockSize, sectorOf};
 ghost use Rattle.layout.specs.Geometry.{blocksOf, Sound};
 ghost use Rattle.sector.specs.Answer.{entriesAs, headerAs};
+use crc::tables::CRC8;
 use entry::Lead;
 use entry::Scan;
 use entry::Verdict;
@@ -37,8 +38,11 @@ pub fn take_entries(sector: &[u8], g: Geometry, cycle: u8) -> Entries
     let first = blocks - 3;
     let mut scan = Scan::start();
     let mut at = first;
+    // The table is lent, so that it is set up once a sector, not once a block.
+    let table = CRC8;
     loop {
-        let verdict = look::block(layout::block_bytes(sector, Block::new(at)), g, cycle, scan);
+        let bytes = layout::block_bytes(sector, Block::new(at));
+        let verdict = look::block_by(&table, bytes, g, cycle, scan);
         let Verdict::Entry(_, next) = verdict else {
             return Entries {
                 count: first - at,
