@@ -2,4 +2,3 @@
 pub mod Spent
 pub mod Laws
 pub mod Reopening
-pub mod Formatting

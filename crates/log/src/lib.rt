@@ -2,7 +2,6 @@
 pub mod blank;
 pub mod blocks;
 pub mod close;
-pub mod format;
 pub mod reopen;
 
 use layout::Block;

@@ -35,7 +35,7 @@ pub fn format(image: &mut [u8], sector_size: usize, count: usize, allowance: u32
     let Sizes::Legal(g) = Geometry::new(sector_size, count, image.len()) else {
         return Outcome::refused(Refusal::Geometry);
     };
-    let budget = log::format::format(image, g, Budget::new(allowance));
+    let budget = formatting::format(image, g, Budget::new(allowance));
     Outcome::ended(allowance, budget, 0)
 }
 

@@ -1,4 +1,4 @@
--- `format::format`: the blanking of sector 0's lead, all other blocks, and that lead.
+-- `format`: the blanking of sector 0's lead, all other blocks, and that lead.
 -- Assumes nothing.
 use mathlib.Core.Path.{ap}
 use mathlib.Core.List.{List, [], _∷_, _++_}
@@ -9,10 +9,10 @@ use Rattle.rules.specs.Stores.{Store, blankStore, finalStore, finalBlocks, fina
 use Rattle.layout.specs.declared.Geometry.{Geometry}
 use Rattle.layout.specs.Numbers.{sectorNo, blockNo}
 use Rattle.layout.specs.Geometry.{blocksOf, sectorsOf}
 use Rattle.log.specs.Budget.{Did}
 use Rattle.log.proofs.Laws.{did-then, did-cut, did-backs, did-consistent}
-use Rattle.log.proofs.format.format.Statement.{statement}
-use Rattle.log.proofs.format.format.Tie as tie
+use Rattle.formatting.proofs.format.Statement.{statement}
+use Rattle.formatting.proofs.format.Tie as tie
 
 -- the three parts of a format
 abbrev blanked : Geometry → List Store

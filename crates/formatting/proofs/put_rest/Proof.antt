@@ -1,4 +1,4 @@
--- `format::put_rest`: sector 0 up to its lead, then the other sectors.
+-- `put_rest`: sector 0 up to its lead, then the other sectors.
 -- Assumes nothing.
 use mathlib.Core.Path.{ap}
 use Prim.Native.Nat.{_-_}
@@ -7,10 +7,10 @@ use borrow.Author.Needs.{needs}
 use Rattle.rules.specs.Stores.{finalBlocks}
 use Rattle.layout.specs.Numbers.{sectorNo}
 use Rattle.layout.specs.Geometry.{blocksOf}
 use Rattle.log.specs.Budget.{Did}
 use Rattle.log.proofs.Laws.{did-then, did-cut, did-backs, did-consistent}
-use Rattle.log.proofs.format.put_rest.Statement.{statement}
-use Rattle.log.proofs.format.put_rest.Tie as tie
+use Rattle.formatting.proofs.put_rest.Statement.{statement}
+use Rattle.formatting.proofs.put_rest.Tie as tie
 
 -- sector 0 up to its lead
 first : (c : tie.After-put-blocks)

@@ -1,4 +1,4 @@
--- `format::put_blocks`. The loop's invariant: the first b blocks are stored, as far as the budget goes.
+-- `put_blocks`. The loop's invariant: the first b blocks are stored, as far as the budget goes.
 -- Assumes nothing.
 use mathlib.Core.Path.{_≡_, sym, ap, _∙_}
 use Prim.Native.Nat.{_+_, _-_, _≤_}
@@ -7,11 +7,11 @@ use borrow.Author.Needs.{needs}
 use Rattle.rules.specs.Stores.{finalBlocks}
 use Rattle.layout.specs.Numbers.{sectorNo, blockNo}
 use Rattle.layout.specs.Geometry.{blocksOf}
 use Rattle.log.specs.Budget.{Did}
 use Rattle.log.proofs.Laws.{did-none, did-then, did-cut, did-backs}
-use Rattle.log.proofs.Formatting.{blocks-split, blocks-next}
-use Rattle.log.proofs.format.put_blocks.Statement.{statement}
-use Rattle.log.proofs.format.put_blocks.Tie as tie
+use Rattle.formatting.proofs.Formatting.{blocks-split, blocks-next}
+use Rattle.formatting.proofs.put_blocks.Statement.{statement}
+use Rattle.formatting.proofs.put_blocks.Tie as tie
 
 abbrev Inv-loop : tie.InvT-loop
 Inv-loop image₀ g s count finals left₀ b₀ image left b = (b ≤ count) × Did g image₀ (finalBlocks (blocksOf g) (sectorNo s) 0 b) left₀ image left

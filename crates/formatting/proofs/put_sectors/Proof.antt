@@ -1,4 +1,4 @@
--- `format::put_sectors`. The loop's invariant: the sectors from 1 to below s are stored, as far as the budget goes.
+-- `put_sectors`. The loop's invariant: the sectors from 1 to below s are stored, as far as the budget goes.
 -- Assumes nothing.
 use mathlib.Core.Path.{_≡_, sym, ap, _∙_}
 use Prim.Native.Nat.{_+_, _-_, _≤_}
@@ -7,11 +7,11 @@ use borrow.Author.Needs.{needs}
 use Rattle.rules.specs.Stores.{finalSectors}
 use Rattle.layout.specs.Numbers.{sectorNo}
 use Rattle.layout.specs.Geometry.{blocksOf, sectorsOf}
 use Rattle.log.specs.Budget.{Did}
 use Rattle.log.proofs.Laws.{did-none, did-then, did-cut, did-backs, did-consistent}
-use Rattle.log.proofs.Formatting.{sectors-split, sectors-next}
-use Rattle.log.proofs.format.put_sectors.Statement.{statement}
-use Rattle.log.proofs.format.put_sectors.Tie as tie
+use Rattle.formatting.proofs.Formatting.{sectors-split, sectors-next}
+use Rattle.formatting.proofs.put_sectors.Statement.{statement}
+use Rattle.formatting.proofs.put_sectors.Tie as tie
 
 abbrev Inv-loop : tie.InvT-loop
 Inv-loop image₀ g finals blocks sectors left₀ s₀ image left s = (1 ≤ s) × (s ≤ sectorsOf g) × Did g image₀ (finalSectors (blocksOf g) 1 (s - 1)) left₀ image left

@@ -1,4 +1,4 @@
--- `format::final_kind` asks what `finalStore` asks, in its order.
+-- `final_kind` asks what `finalStore` asks, in its order.
 -- Assumes nothing.
 use mathlib.Core.Path.{_≡_, sym, ap, _∙_}
 use Prim.Native.Nat.{ℕ, _-_}
@@ -6,9 +6,9 @@ use native.Mathlib.Omega.{arith}
 use borrow.Author.Needs.{needs}
 use Rattle.layout.specs.Numbers.{sectorNo, blockNo}
 use Rattle.layout.specs.Geometry.{blocksOf}
-use Rattle.log.proofs.Formatting.{final-lead, final-close, final-open, final-done, final-not-done, final-low}
-use Rattle.log.proofs.format.final_kind.Statement.{statement}
-use Rattle.log.proofs.format.final_kind.Tie as tie
+use Rattle.formatting.proofs.Formatting.{final-lead, final-close, final-open, final-done, final-not-done, final-low}
+use Rattle.formatting.proofs.final_kind.Statement.{statement}
+use Rattle.formatting.proofs.final_kind.Tie as tie
 
 -- the block so far from the end, in the code's numbers
 at : (c : tie.After-number2) (n : ℕ)

@@ -1,11 +1,11 @@
--- `format::put_final`: kind and bytes are those of the final store.
+-- `put_final`: kind and bytes are those of the final store.
 -- Assumes nothing.
 use borrow.Author.Needs.{needs}
 use Rattle.layout.specs.Numbers.{sectorNo, blockNo}
 use Rattle.layout.specs.Geometry.{blocksOf}
-use Rattle.log.proofs.Formatting.{final-by}
-use Rattle.log.proofs.format.put_final.Statement.{statement}
-use Rattle.log.proofs.format.put_final.Tie as tie
+use Rattle.formatting.proofs.Formatting.{final-by}
+use Rattle.formatting.proofs.put_final.Statement.{statement}
+use Rattle.formatting.proofs.put_final.Tie as tie
 
 final-kind-requires : tie.Need-final-kind-requires
 final-kind-requires c κs = search needs

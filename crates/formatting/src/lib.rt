@@ -6,17 +6,17 @@ ghost use Prim.Native.Nat.{_-_, _<_, _≤_};
 ghost use Rattle.rules.specs.Stores as rule;
 ghost use Rattle.layout.specs.Numbers.{sectorNo, blockNo};
 ghost use Rattle.layout.specs.Geometry.{blocksOf, sectorsOf, Sound, Backs};
 ghost use Rattle.log.specs.Budget.{kindOf, Did, Consistent};
-ghost use Rattle.log.specs.Steps.{OfCycle1, kindBytes};
-use crate::Budget;
-use crate::Kind;
-use crate::blank;
-use crate::blank::put_blank;
-use crate::put;
+ghost use Rattle.formatting.specs.Finals.{OfCycle1, kindBytes};
 use entry::build;
 use layout::Block;
 use layout::Geometry;
 use layout::Sector;
+use log::Budget;
+use log::Kind;
+use log::blank;
+use log::blank::put_blank;
+use log::put;
 
 // The blocks of a format that are not blank, made once.
 struct Finals {

@@ -1,4 +1,4 @@
--- `format::final_bytes`: what has no mark is blank.
+-- `final_bytes`: what has no mark is blank.
 -- Assumes nothing.
 use mathlib.Core.Path.{_≡_, refl, sym, ap, _∙_}
 use mathlib.Core.List.{List, [], _∷_}
@@ -7,13 +7,13 @@ use types.Run.{OneOf, miss}
 use denote.Enum.Declared.{tagOf}
 use borrow.Author.Needs.{needs}
 use Rattle.rules.specs.Ground.{blankBlock}
 use Rattle.log.specs.declared.Kind.{Kind}
 use Rattle.log.specs.declared.Kind.the-variants as kind
 use Rattle.log.specs.Budget.{kindOf}
-use Rattle.log.specs.Steps.{kindBytes}
+use Rattle.formatting.specs.Finals.{kindBytes}
 use Rattle.log.proofs.Kind.{the-type}
-use Rattle.log.proofs.format.final_bytes.Statement.{statement}
-use Rattle.log.proofs.format.final_bytes.Tie as tie
+use Rattle.formatting.proofs.final_bytes.Statement.{statement}
+use Rattle.formatting.proofs.final_bytes.Tie as tie
 
 -- by their numbers, the kinds whose blocks are blank here
 abbrev others : List ℕ

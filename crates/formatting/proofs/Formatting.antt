@@ -10,7 +10,7 @@ use Rattle.rules.specs.Notation.{if_then_else_}
 use Rattle.rules.specs.Stores as rule
 use Rattle.rules.specs.Stores.{Store, blankStore, finalStore, finalBlocks, finalSectors}
 use Rattle.rules.proofs.Basics.Notation.{if-either}
-use Rattle.log.specs.Steps.{kindBytes}
+use Rattle.formatting.specs.Finals.{kindBytes}
 
 -- ---- one store
 
