@@ -47,8 +47,8 @@ fn source_of(block: &[u8]) -> Source
     requires { ⌜ length (now block) ≡ blockSize ⌝ }
     ensures { λ r. ⌜ r ≡ sourceAs (now (block .entry)) ⌝ }
 {
-    let id = layout::le32(block, look::ID_AT);
-    let length = layout::le16(block, look::LENGTH_AT) as usize;
+    let id = look::id_in(block);
+    let length = look::length_in(block) as usize;
     if length <= entry::SMALL {
         return Source {
             id: id,
@@ -56,7 +56,7 @@ fn source_of(block: &[u8]) -> Source
             first: 0,
         };
     }
-    let offset = layout::le32(block, look::BODY_AT) as usize;
+    let offset = look::offset_in(block) as usize;
     Source {
         id: id,
         length: length,
@@ -70,15 +70,15 @@ fn copied(block: &[u8], cycle: u8, data_end: usize) -> [u8; Geometry::BLOCK_SIZE
     requires { ⌜ «data_end» ≤ 4096 ⌝ }
     ensures { λ r. ⌜ r ≡ copyOf cycle «data_end» (now (block .entry)) ⌝ }
 {
-    let id = layout::le32(block, look::ID_AT);
-    let length = layout::le16(block, look::LENGTH_AT);
+    let id = look::id_in(block);
+    let length = look::length_in(block);
     let small = length as usize;
     if small <= entry::SMALL {
         let end = look::BODY_AT + small;
         return build::small_value(cycle, id, &block[look::BODY_AT..end]);
     }
     let offset = data_end * Geometry::BLOCK_SIZE;
-    let check = layout::le32(block, look::SECOND_AT);
+    let check = look::crc32_in(block);
     build::long_value(cycle, id, length, offset as u32, check)
 }
 

@@ -5,6 +5,7 @@ ghost use lib.ListN.{length};
 ghost use Rattle.rules.specs.Notation as notation;
 ghost use Rattle.rules.specs.Ground.{blockSize};
 ghost use Rattle.rules.specs.Checksum.{step8};
+ghost use Rattle.rules.specs.Entry as fields;
 ghost use Rattle.rules.specs.Look as rule;
 ghost use Rattle.crc.specs.Table.{IsTable};
 ghost use Rattle.layout.specs.Geometry.{blocksOf, Sound};
@@ -23,13 +24,45 @@ use layout::Geometry;
 // Where the fields of a block begin: cycle, length, ID, body, and the second number of a body.
 const CYCLE_AT: usize = 1;
 
-pub const LENGTH_AT: usize = 2;
+const LENGTH_AT: usize = 2;
 
-pub const ID_AT: usize = 4;
+const ID_AT: usize = 4;
 
 pub const BODY_AT: usize = 8;
 
-pub const SECOND_AT: usize = 12;
+const SECOND_AT: usize = 12;
+
+// The ID in an entry's block.
+pub fn id_in(block: &[u8]) -> u32
+    requires { ⌜ length (now block) ≡ blockSize ⌝ }
+    ensures { λ r. ⌜ r ≡ fields.idOf (now (block .entry)) ⌝ }
+{
+    layout::le32(block, ID_AT)
+}
+
+// The length of its value.
+pub fn length_in(block: &[u8]) -> u16
+    requires { ⌜ length (now block) ≡ blockSize ⌝ }
+    ensures { λ r. ⌜ r ≡ fields.lengthOf (now (block .entry)) ⌝ }
+{
+    layout::le16(block, LENGTH_AT)
+}
+
+// The offset of the data of a long value.
+pub fn offset_in(block: &[u8]) -> u32
+    requires { ⌜ length (now block) ≡ blockSize ⌝ }
+    ensures { λ r. ⌜ r ≡ fields.offsetOf (now (block .entry)) ⌝ }
+{
+    layout::le32(block, BODY_AT)
+}
+
+// The CRC-32 of a long value.
+pub fn crc32_in(block: &[u8]) -> u32
+    requires { ⌜ length (now block) ≡ blockSize ⌝ }
+    ensures { λ r. ⌜ r ≡ fields.crc32Of (now (block .entry)) ⌝ }
+{
+    layout::le32(block, SECOND_AT)
+}
 
 // The kind of an entry by its fields.
 enum Form {

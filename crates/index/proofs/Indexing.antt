@@ -10,24 +10,19 @@ use native.Mathlib.Numerals.{add-one}
 use native.Mathlib.Omega.{arith}
 use native.Mathlib.Decide.{ℕ-discrete}
 use lib.Dec.{lit<}
-use lib.ListN.{length, getD, set, take, drop, length-set}
+use lib.ListN.{length, getD, set, length-set}
 use lib.Seq.{getD-set-same, getD-set-other}
 use borrow.Author.Count.{below-more}
 use borrow.Author.Tests.{eq-eqb, ne-eqb}
-use Rattle.rules.specs.Notation.{numberOf}
 use Rattle.rules.specs.Ground.{reservedId}
-use Rattle.rules.specs.Entry.{idOf}
 use Rattle.rules.specs.Reading.{Entry}
-use Rattle.rules.specs.Meaning.{viewAt, isNamed}
+use Rattle.rules.specs.Meaning.{isNamed}
 use Rattle.rules.specs.Stores.{idIn}
 use Rattle.rules.proofs.Basics.Notation.{if-true, if-false}
 use Rattle.rules.proofs.Basics.Places.{here-or}
 use Rattle.rules.proofs.Ring.Newest.{named-id}
-use Rattle.layout.specs.declared.Geometry.{Geometry}
-use Rattle.layout.specs.Geometry.{sectorsOf, Backs}
 use Rattle.mask.specs.Marks.{maxMarks}
-use Rattle.image.specs.Answer.{noEntry, viewsIn}
-use Rattle.image.proofs.EntryBlocks.{entryBlock, entry-lies}
+use Rattle.image.specs.Answer.{noEntry}
 use Rattle.search.specs.Search.{lastNamedBelow}
 use Rattle.search.proofs.Seeking.{last-below}
 use Rattle.index.specs.Index.{bucketCount, bucketOf, lastIn, linkTo, Indexes}
@@ -40,13 +35,6 @@ bucket-low id = mod-lt _ (lit< tt)
 -- the bucket of entry n
 abbrev pub bucketAt : List Entry → ℕ → ℕ
 bucketAt es n = bucketOf (idIn (getD es n noEntry .head))
-
--- an entry's block tells its ID
-pub id-read : (g : Geometry) (bytes : List ℕ) → Backs g bytes → (s n : ℕ) → s < sectorsOf g → n < length (viewAt (viewsIn g bytes) s .entries)
-    → {block : List ℕ} → block ≡ entryBlock g bytes s n
-    → numberOf (take 4 (drop 4 block)) ≡ idIn (getD (viewAt (viewsIn g bytes) s .entries) n noEntry .head)
-unfolding idOf
-id-read g bytes backs s n inside here read = ap idOf read ∙ entry-lies g bytes backs s n inside here .id
 
 -- one entry more falls into the bucket, or into another
 module _ (b : ℕ) (es : List Entry) where

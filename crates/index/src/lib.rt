@@ -49,7 +49,7 @@ pub fn find(
     while link > 0 {
         let n = link - 1;
         let block = entries::entry_block(image, g, s, n);
-        if layout::le32(block, look::ID_AT) == id {
+        if look::id_in(block) == id {
             return Hit::At(n);
         }
         link = links[n] as usize;
@@ -66,7 +66,7 @@ pub fn add(image: &[u8], g: Geometry, s: Sector, n: usize, heads: &mut [u16], li
     ensures { λ r. ⌜ Indexes (viewAt (viewsIn g (now (image .entry))) (sectorNo s) .entries) (n + 1) (now (heads .exit)) (now (links .exit)) ⌝ }
 {
     let block = entries::entry_block(image, g, s, n);
-    let at = bucket(layout::le32(block, look::ID_AT));
+    let at = bucket(look::id_in(block));
     links[n] = heads[at];
     heads[at] = (n + 1) as u16;
 }

@@ -31,7 +31,7 @@ fn value_need(image: &[u8], g: Geometry, s: Sector, n: usize) -> usize
     ensures { λ r. ⌜ r ≡ 1 + dataBlocks (lengthOf (blockAt (imageOf (blocksOf g) (sectorsOf g) (now (image .entry))) (sectorNo s) (blocksOf g - 3 - n))) ⌝ }
 {
     let block = entries::entry_block(image, g, s, n);
-    1 + look::data_blocks(layout::le16(block, look::LENGTH_AT) as usize)
+    1 + look::data_blocks(look::length_in(block) as usize)
 }
 
 // Is entry n of sector s a value, and not one of those that have a later one of their ID?
@@ -42,10 +42,10 @@ fn is_live(image: &[u8], g: Geometry, s: Sector, n: usize, renewed: Marks) -> bo
     ensures { λ r. ⌜ r ≡ (isValue (getD (viewAt (viewsIn g (now (image .entry))) (sectorNo s) .entries) n noEntry .head) && not (getD (marksOf renewed) n false)) ⌝ }
 {
     let block = entries::entry_block(image, g, s, n);
-    if layout::le32(block, look::ID_AT) == Geometry::RESERVED_ID {
+    if look::id_in(block) == Geometry::RESERVED_ID {
         return false;
     }
-    if layout::le16(block, look::LENGTH_AT) == 0 {
+    if look::length_in(block) == 0 {
         return false;
     }
     !renewed.has(n)

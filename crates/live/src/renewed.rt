@@ -42,7 +42,7 @@ fn renewed_entry(
     ensures { λ r. ⌜ r ≡ hitAs (renewedBy (getD (viewAt (viewsIn g (now (image .entry))) (sectorNo t) .entries) n noEntry .head) count (viewAt (viewsIn g (now (image .entry))) (sectorNo s) .entries)) ⌝ }
 {
     let block = entries::entry_block(image, g, t, n);
-    let id = layout::le32(block, look::ID_AT);
+    let id = look::id_in(block);
     if id == Geometry::RESERVED_ID {
         return Hit::Nothing;
     }

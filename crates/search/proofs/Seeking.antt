@@ -8,7 +8,6 @@ use Prim.Native.Nat.{ℕ, suc, _+_, _-_, _*_, _<_, _≤_}
 use native.Mathlib.Omega.{arith}
 use lib.Dec.{eqb}
 use lib.ListN.{length, getD, take, drop}
-use Rattle.rules.specs.Notation.{numberOf}
 use Rattle.rules.specs.Ground.{blockSize, reservedId, sectorOf}
 use Rattle.rules.specs.Entry.{idOf}
 use Rattle.rules.specs.Reading.{Entry, View, viewOf}
@@ -49,8 +48,8 @@ module _ (B : ℕ) (bytes : List ℕ) (enough : 8 ≤ B) where
   module _ (sized : length bytes ≡ B * blockSize) (id : ℕ) (user : id ≡ reservedId → ⊥) where
     pub named-by : (n : ℕ) → n < length (viewOf B (sectorOf B bytes) .entries) → {part : List ℕ}
         → part ≡ take blockSize (drop ((B - 3 - n) * blockSize) bytes)
-        → isNamed id (getD (viewOf B (sectorOf B bytes) .entries) n noEntry .head) ≡ eqb (numberOf (take 4 (drop 4 part))) id
-    unfolding viewOf idOf
+        → isNamed id (getD (viewOf B (sectorOf B bytes) .entries) n noEntry .head) ≡ eqb (idOf part) id
+    unfolding viewOf
     named-by n here read =
         let lies = lies-at B _ bytes enough sized n noEntry here in
         named-id id user _ ∙ ap (λ (i : ℕ). eqb i id) (sym (lies .id) ∙ ap idOf (lies .own ∙ sym read))

@@ -59,7 +59,7 @@ fn newest_in(sector: &[u8], g: Geometry, entries: usize, id: u32) -> Hit
     while n > 0 {
         n -= 1;
         let block = layout::block_bytes(sector, Block::new(g.blocks() - 3 - n));
-        if layout::le32(block, look::ID_AT) == id {
+        if look::id_in(block) == id {
             return Hit::At(n);
         }
     }
@@ -114,7 +114,7 @@ fn value_at(image: &[u8], g: Geometry, s: Sector, n: usize) -> Found
     ensures { λ r. ⌜ r ≡ foundIn (blocksOf g) (imageOf (blocksOf g) (sectorsOf g) (now (image .entry))) (sectorNo s) n ⌝ }
 {
     let block = entries::entry_block(image, g, s, n);
-    let length = layout::le16(block, look::LENGTH_AT) as usize;
+    let length = look::length_in(block) as usize;
     if length == 0 {
         return Found::Nothing;
     }
@@ -122,8 +122,8 @@ fn value_at(image: &[u8], g: Geometry, s: Sector, n: usize) -> Found
         let place = g.place(s, Block::new(g.blocks() - 3 - n));
         return Found::Value(place.plus(look::BODY_AT), length, Check::Unchecked);
     }
-    let offset = layout::le32(block, look::BODY_AT) as usize;
-    let crc = layout::le32(block, look::SECOND_AT);
+    let offset = look::offset_in(block) as usize;
+    let crc = look::crc32_in(block);
     Found::Value(
         g.place(s, Block::new(0)).plus(offset),
         length,

@@ -45,8 +45,8 @@ fn value_head(image: &[u8], g: Geometry, s: Sector, n: usize) -> Head
     ensures { λ r. ⌜ headOf r ≡ entryIn g (now (image .entry)) (sectorNo s) n .head ⌝ }
 {
     let block = entries::entry_block(image, g, s, n);
-    let id = layout::le32(block, look::ID_AT);
-    let length = layout::le16(block, look::LENGTH_AT) as usize;
+    let id = look::id_in(block);
+    let length = look::length_in(block) as usize;
     Head::Value(id, length)
 }
 

@@ -4,18 +4,17 @@ use mathlib.Core.Path.{_≡_, ap, _∙_}
 use mathlib.Core.List.{List}
 use Prim.Native.Nat.{_+_, _<_, _≤_}
 use native.Mathlib.Omega.{arith}
-use lib.ListN.{length}
 use borrow.Author.Needs.{needs}
-use Rattle.rules.specs.Ground.{blockSize}
+use Rattle.rules.specs.Entry.{idOf}
 use Rattle.rules.specs.Reading.{Entry}
 use Rattle.rules.specs.Meaning.{viewAt}
 use Rattle.layout.specs.Geometry.{blocksOf}
 use Rattle.layout.specs.Numbers.{sectorNo}
 use Rattle.mask.specs.Marks.{maxMarks}
 use Rattle.image.specs.Answer.{viewsIn}
-use Rattle.image.proofs.EntryBlocks.{entry-low, entry-whole, entries-few}
+use Rattle.image.proofs.EntryBlocks.{entry-lies, entry-low, entry-whole, entries-few}
 use Rattle.index.specs.Index.{bucketCount, bucketOf}
-use Rattle.index.proofs.Indexing.{bucket-low, bucketAt, id-read, index-more}
+use Rattle.index.proofs.Indexing.{bucket-low, bucketAt, index-more}
 use Rattle.index.proofs.add.Statement.{statement}
 use Rattle.index.proofs.add.Tie as tie
 
@@ -26,12 +25,6 @@ entriesAt k = viewAt (viewsIn (k .args .g) (k .args .image .now)) (sectorNo (k .
 low : (k : tie.Start) → k .args .n + 3 ≤ blocksOf (k .args .g)
 low k = entry-low (k .args .g) (k .args .image .now) (k .pre .0) (sectorNo (k .args .s)) (k .args .n) (k .pre .1 .0) (k .pre .1 .1 .0)
 
-whole : (c : tie.After-entry-block) → length (c .entry-block .result .now) ≡ blockSize
-whole c =
-    let k = c .before .before .before .before in
-    rw (c .entry-block .ensures)
-    (entry-whole (k .args .g) (k .args .image .now) (sectorNo (k .args .s)) (k .args .n) (k .pre .0) (k .pre .1 .0) (low k))
-
 linked : (k : tie.Start) → k .args .n < maxMarks
 linked k = omega (arith, k .pre .1 .1 .0, entries-few (k .args .g) (k .args .image .now) (sectorNo (k .args .s)) (k .pre .1 .0) (k .pre .0 .sound))
 
@@ -41,8 +34,8 @@ own-bucket : (c : tie.After-bucket)
     c .bucket .result ≡ bucketAt (entriesAt k) (k .args .n)
 own-bucket c =
     let k = c .before .before .before .before .before .before in
-    let read = id-read (k .args .g) (k .args .image .now) (k .pre .0) (sectorNo (k .args .s)) _ (k .pre .1 .0) (k .pre .1 .1 .0) (c .before .before .entry-block .ensures) in
-    c .bucket .ensures ∙ ap bucketOf (c .before .le32 .ensures ∙ read)
+    let lies = entry-lies (k .args .g) (k .args .image .now) (k .pre .0) (sectorNo (k .args .s)) _ (k .pre .1 .0) (k .pre .1 .1 .0) in
+    c .bucket .ensures ∙ ap bucketOf (c .before .id-in .ensures ∙ ap idOf (c .before .before .entry-block .ensures) ∙ lies .id)
 
 at-low : (c : tie.After-bucket) → c .bucket .result < bucketCount
 at-low c = rw (c .bucket .ensures) (bucket-low _)
@@ -52,8 +45,11 @@ entry-block-requires c κs =
     let k = c .before .before .before in
     (k .pre .0, (k .pre .1 .0, low k))
 
-le32-requires : tie.Need-le32-requires
-le32-requires c κs = omega (arith, whole c)
+id-in-requires : tie.Need-id-in-requires
+id-in-requires c κs =
+    let k = c .before .before .before .before in
+    rw (c .entry-block .ensures)
+    (entry-whole (k .args .g) (k .args .image .now) (sectorNo (k .args .s)) (k .args .n) (k .pre .0) (k .pre .1 .0) (low k))
 
 bucket-requires : tie.Need-bucket-requires
 bucket-requires c κs = search needs
@@ -104,7 +100,7 @@ add-spec =
     tie.close
     (tie.spec
     entry-block-requires
-    le32-requires
+    id-in-requires
     bucket-requires
     mul-links
     slice-read-links

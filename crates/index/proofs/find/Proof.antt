@@ -8,7 +8,7 @@ use lib.Dec.{eqb}
 use lib.ListN.{length, getD}
 use borrow.Author.Needs.{needs}
 use borrow.Author.Tests.{eq-eqb, ne-eqb}
-use Rattle.rules.specs.Ground.{blockSize}
+use Rattle.rules.specs.Entry.{idOf}
 use Rattle.rules.specs.Reading.{Entry}
 use Rattle.rules.specs.Meaning.{viewAt, isNamed}
 use Rattle.rules.proofs.Ring.Newest.{named-id}
@@ -18,11 +18,11 @@ use Rattle.layout.specs.Geometry.{blocksOf}
 use Rattle.layout.specs.Numbers.{sectorNo}
 use Rattle.mask.specs.Marks.{maxMarks}
 use Rattle.image.specs.Answer.{noEntry, viewsIn}
-use Rattle.image.proofs.EntryBlocks.{entry-low, entry-whole, entries-few}
+use Rattle.image.proofs.EntryBlocks.{entry-lies, entry-low, entry-whole, entries-few}
 use Rattle.search.specs.Search.{hitAs}
 use Rattle.search.proofs.Seeking.{last-here, last-of-none}
 use Rattle.index.specs.Index.{bucketCount, bucketOf, lastIn, linkTo}
-use Rattle.index.proofs.Indexing.{bucket-low, id-read, Narrowed, narrowed, narrowed-older, narrowed-next}
+use Rattle.index.proofs.Indexing.{bucket-low, Narrowed, narrowed, narrowed-older, narrowed-next}
 use Rattle.index.proofs.find.Statement.{statement}
 use Rattle.index.proofs.find.Tie as tie
 
@@ -70,27 +70,21 @@ low c =
     let k = c .before .before .before .before .before .before .before in
     entry-low (k .args .g) (k .args .image .now) (k .pre .0) (sectorNo (k .args .s)) _ (k .pre .1 .0) (inside c)
 
-whole : (c : tie.After-entry-block Inv-loop μ-loop) → length (c .entry-block .result .now) ≡ blockSize
-whole c =
-    let k = c .before .before .before .before .before .before .before .before in
-    rw (c .entry-block .ensures)
-    (entry-whole (k .args .g) (k .args .image .now) (sectorNo (k .args .s)) _ (k .pre .0) (k .pre .1 .0) (low (c .before)))
-
 linked : (c : tie.In-loop Inv-loop μ-loop) → c .before .loop .link - 1 < maxMarks
 linked c =
     let k = c .before .before .before .before .before .before .before in
     omega (arith, inside c, entries-few (k .args .g) (k .args .image .now) (sectorNo (k .args .s)) (k .pre .1 .0) (k .pre .0 .sound))
 
 -- it names the ID where the test says so
-named : (c : tie.After-le32 Inv-loop μ-loop)
+named : (c : tie.After-id-in Inv-loop μ-loop)
     → let l = c .before .before .before in
     let k = l .before .before .before .before .before .before in
     isNamed (k .args .id) (getD (entriesOf (k .args .g) (k .args .image .now) (k .args .s)) (l .loop .link - 1) noEntry .head)
-    ≡ eqb (c .le32 .result) (k .args .id)
+    ≡ eqb (c .id-in .result) (k .args .id)
 named c =
     let k = c .before .before .before .before .before .before .before .before .before in
-    let read = id-read (k .args .g) (k .args .image .now) (k .pre .0) (sectorNo (k .args .s)) _ (k .pre .1 .0) (inside (c .before .before)) (c .before .entry-block .ensures) in
-    named-id (k .args .id) (k .pre .1 .1 .1) _ ∙ ap (λ (i : ℕ). eqb i (k .args .id)) (sym (c .le32 .ensures ∙ read))
+    let lies = entry-lies (k .args .g) (k .args .image .now) (k .pre .0) (sectorNo (k .args .s)) _ (k .pre .1 .0) (inside (c .before .before)) in
+    named-id (k .args .id) (k .pre .1 .1 .1) _ ∙ ap (λ (i : ℕ). eqb i (k .args .id)) (sym (c .id-in .ensures ∙ ap idOf (c .before .entry-block .ensures) ∙ lies .id))
 
 -- and its link leads to the next older one of the bucket
 older : (c : tie.In-loop Inv-loop μ-loop)
@@ -128,8 +122,11 @@ entry-block-requires c κs =
     let k = c .before .before .before .before .before .before .before in
     (k .pre .0, (k .pre .1 .0, low c))
 
-le32-requires : tie.Need-le32-requires Inv-loop μ-loop
-le32-requires c κs = omega (arith, whole c)
+id-in-requires : tie.Need-id-in-requires Inv-loop μ-loop
+id-in-requires c κs =
+    let k = c .before .before .before .before .before .before .before .before in
+    rw (c .entry-block .ensures)
+    (entry-whole (k .args .g) (k .args .image .now) (sectorNo (k .args .s)) _ (k .pre .0) (k .pre .1 .0) (low (c .before)))
 
 returns : tie.Need-returns Inv-loop μ-loop
 returns c =
@@ -179,7 +176,7 @@ find-spec =
     loop-holds
     sub-n
     entry-block-requires
-    le32-requires
+    id-in-requires
     returns
     mul-link-2
     shared-slice-read-link-2

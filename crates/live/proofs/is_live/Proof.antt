@@ -15,15 +15,13 @@ use Rattle.live.proofs.is_live.Statement.{statement}
 use Rattle.live.proofs.is_live.Tie as tie
 
 -- the two fields are those of the entry's block
-id-read : (c : tie.After-le32) → let k = c .before .before .before in
-    idOf (entryBlock (k .args .g) (k .args .image .now) (sectorNo (k .args .s)) (k .args .n)) ≡ c .le32 .result
-unfolding idOf
-id-read c = rw (c .before .entry-block .ensures) at (sym (c .le32 .ensures))
+id-read : (c : tie.After-id-in) → let k = c .before .before .before in
+    idOf (entryBlock (k .args .g) (k .args .image .now) (sectorNo (k .args .s)) (k .args .n)) ≡ c .id-in .result
+id-read c = rw (c .before .entry-block .ensures) at (sym (c .id-in .ensures))
 
-length-read : (c : tie.After-le16) → let k = c .before .before .before .before .before in
-    lengthOf (entryBlock (k .args .g) (k .args .image .now) (sectorNo (k .args .s)) (k .args .n)) ≡ c .le16 .result
-unfolding lengthOf
-length-read c = rw (c .before .before .before .entry-block .ensures) at (sym (c .le16 .ensures))
+length-read : (c : tie.After-length-in) → let k = c .before .before .before .before .before in
+    lengthOf (entryBlock (k .args .g) (k .args .image .now) (sectorNo (k .args .s)) (k .args .n)) ≡ c .length-in .result
+length-read c = rw (c .before .before .before .entry-block .ensures) at (sym (c .length-in .ensures))
 
 low : (c : tie.After-shared-slice-known) → c .before .args .n + 3 ≤ blocksOf (c .before .args .g)
 low c =
@@ -39,16 +37,16 @@ whole c =
 entry-block-requires : tie.Need-entry-block-requires
 entry-block-requires c κs = (c .before .pre .0, (c .before .pre .1 .0, low c))
 
-le32-requires : tie.Need-le32-requires
-le32-requires c κs = omega (arith, whole c)
+id-in-requires : tie.Need-id-in-requires
+id-in-requires c κs = whole c
 
 returns : tie.Need-returns
 returns c =
     let k = c .before .before .before .before in
     rw (reserved-no-value (k .args .g) (k .args .image .now) (k .pre .0) (sectorNo (k .args .s)) (k .args .n) (k .pre .1 .0) (k .pre .1 .1) (id-read (c .before) ∙ c .if1 .taken))
 
-le16-requires : tie.Need-le16-requires
-le16-requires c κs = omega (arith, whole (c .before .before))
+length-in-requires : tie.Need-length-in-requires
+length-in-requires c κs = whole (c .before .before)
 
 returns-2 : tie.Need-returns-2
 returns-2 c =
@@ -73,9 +71,9 @@ is-live-spec =
     tie.close
     (tie.spec
     entry-block-requires
-    le32-requires
+    id-in-requires
     returns
-    le16-requires
+    length-in-requires
     returns-2
     has-requires
     returns-3)

@@ -53,15 +53,15 @@ read : (c : tie.After-block-bytes Inv-loop μ-loop)
 read c = rw (ap blockNo (c .before .new .ensures), c .before .before .blocks2 .ensures) at (c .block-bytes .ensures)
 
 -- entry n - 1 names the ID where the test says so
-named : (c : tie.After-le32 Inv-loop μ-loop)
+named : (c : tie.After-id-in Inv-loop μ-loop)
     → let l = c .before .before .before .before .before in
     let k = l .before .before in
-    isNamed (k .args .id) (getD (entriesIn (k .args .g) (k .args .sector .now)) (l .loop .n - 1) noEntry .head) ≡ eqb (c .le32 .result) (k .args .id)
+    isNamed (k .args .id) (getD (entriesIn (k .args .g) (k .args .sector .now)) (l .loop .n - 1) noEntry .head) ≡ eqb (c .id-in .result) (k .args .id)
 named c =
     let l = c .before .before .before .before .before in
     let k = l .before .before in
     named-by _ _ (k .pre .0 .blocks-from) (k .pre .1 .0) _ (k .pre .1 .1 .1) _ (inside (c .before .before .before .before)) (read (c .before))
-    ∙ ap (λ (i : ℕ). eqb i (k .args .id)) (sym (c .le32 .ensures))
+    ∙ ap (λ (i : ℕ). eqb i (k .args .id)) (sym (c .id-in .ensures))
 
 -- n is one more than n - 1
 above : (c : tie.In-loop Inv-loop μ-loop) → c .before .loop .n ≡ suc (c .before .loop .n - 1)
@@ -88,12 +88,12 @@ new-requires c κs = search needs
 block-bytes-requires : tie.Need-block-bytes-requires Inv-loop μ-loop
 block-bytes-requires c κs = omega (arith, ap blockNo (c .new .ensures), low (c .before .before))
 
-le32-requires : tie.Need-le32-requires Inv-loop μ-loop
-le32-requires c κs =
+id-in-requires : tie.Need-id-in-requires Inv-loop μ-loop
+id-in-requires c κs =
     let k = c .before .before .before .before .before .before in
     let fits : (blocksOf (k .args .g) - 3 - (c .before .before .before .before .loop .n - 1)) * blockSize + blockSize ≤ length (k .args .sector .now) =
     omega (arith, low (c .before .before .before), k .pre .1 .0) in
-    omega (arith, ap length (read c) ∙ length-part blockSize _ (k .args .sector .now) fits)
+    ap length (read c) ∙ length-part blockSize _ (k .args .sector .now) fits
 
 returns : tie.Need-returns Inv-loop μ-loop
 returns c =
@@ -128,7 +128,7 @@ newest-in-spec =
     sub-new-2
     new-requires
     block-bytes-requires
-    le32-requires
+    id-in-requires
     returns
     loop-less
     loop-again

@@ -31,17 +31,14 @@ whole c =
 abbrev block : tie.Start → Block
 block k = entryBlock (k .args .g) (k .args .image .now) (k .args .s .0) (k .args .n)
 
-told : (c : tie.After-le16) → c .le16 .result ≡ lengthOf (block (c .before .before .before))
-unfolding lengthOf
-told c = c .le16 .ensures ∙ ap lengthOf (c .before .entry-block .ensures)
+told : (c : tie.After-length-in) → c .length-in .result ≡ lengthOf (block (c .before .before .before))
+told c = c .length-in .ensures ∙ ap lengthOf (c .before .entry-block .ensures)
 
-offset : (c : tie.After-le32) → c .le32 .result ≡ offsetOf (block (c .before .before .before .before .before .before))
-unfolding offsetOf
-offset c = c .le32 .ensures ∙ ap offsetOf (c .before .before .before .before .entry-block .ensures)
+offset : (c : tie.After-offset-in) → c .offset-in .result ≡ offsetOf (block (c .before .before .before .before .before .before))
+offset c = c .offset-in .ensures ∙ ap offsetOf (c .before .before .before .before .entry-block .ensures)
 
-crc : (c : tie.After-le322) → c .le322 .result ≡ crc32Of (block (c .before .before .before .before .before .before .before))
-unfolding crc32Of
-crc c = c .le322 .ensures ∙ ap crc32Of (c .before .before .before .before .before .entry-block .ensures)
+crc : (c : tie.After-crc32-in) → c .crc32-in .result ≡ crc32Of (block (c .before .before .before .before .before .before .before))
+crc c = c .crc32-in .ensures ∙ ap crc32Of (c .before .before .before .before .before .entry-block .ensures)
 
 -- where the entry stands
 at : (c : tie.After-new)
@@ -59,8 +56,8 @@ below c =
 entry-block-requires : tie.Need-entry-block-requires
 entry-block-requires c κs = let k = c .before in (k .pre .0, (k .pre .1 .0, low k))
 
-le16-requires : tie.Need-le16-requires
-le16-requires c κs = omega (arith, whole c)
+length-in-requires : tie.Need-length-in-requires
+length-in-requires c κs = whole c
 
 cast-length : tie.Need-cast-length
 cast-length c = search needs
@@ -98,18 +95,18 @@ returns-2 c =
     let k = l .before .before .before in
     let g = k .args .g in
     let place = c .plus .ensures ∙ ap (λ (n : ℕ). n + 8) (c .before .place .ensures ∙ ap (placeOf (blocksOf g) (k .args .s .0)) (at (c .before .before))) in
-    let one : 0 < l .le16 .result = omega (arith, c .before .before .before .before .before .if1 .left) in
+    let one : 0 < l .length-in .result = omega (arith, c .before .before .before .before .before .if1 .left) in
     ap₂ (λ (p len : ℕ). Value (placeAt p) len Unchecked) place (told l)
     ∙ sym (found-small g (k .args .image .now) (k .pre .0) (k .args .s .0) (k .args .n) (k .pre .1 .0) (k .pre .1 .1) (omega (arith, told l)) (omega (arith, told l, c .before .before .before .before .if2 .taken)))
 
-le32-requires : tie.Need-le32-requires
-le32-requires c κs = omega (arith, whole (c .before .before .before))
+offset-in-requires : tie.Need-offset-in-requires
+offset-in-requires c κs = whole (c .before .before .before)
 
 cast-offset : tie.Need-cast-offset
 cast-offset c = search needs
 
-le32-requires-2 : tie.Need-le32-requires-2
-le32-requires-2 c κs = omega (arith, whole (c .before .before .before .before))
+crc32-in-requires : tie.Need-crc32-in-requires
+crc32-in-requires c κs = whole (c .before .before .before .before)
 
 new-requires-2 : tie.Need-new-requires-2
 new-requires-2 c κs = search needs
@@ -143,7 +140,7 @@ returns-3 c =
     let place =
     c .plus2 .ensures
     ∙ ap₂ (λ (n m : ℕ). n + m) (c .before .place2 .ensures ∙ ap (placeOf (blocksOf g) (k .args .s .0)) (ap blockNo (c .before .before .new2 .ensures))) (offset (c .before .before .before .before)) in
-    ap₂ (λ (p len : ℕ). Value (placeAt p) len (Crc32 (c .before .before .before .le322 .result))) place (told l)
+    ap₂ (λ (p len : ℕ). Value (placeAt p) len (Crc32 (c .before .before .before .crc32-in .result))) place (told l)
     ∙ ap (λ (n : ℕ). Value (placeAt (placeOf (blocksOf g) (k .args .s .0) 0 + offsetOf (block k))) (lengthOf (block k)) (Crc32 n)) (crc (c .before .before .before))
     ∙ sym (found-long g (k .args .image .now) (k .pre .0) (k .args .s .0) (k .args .n) (k .pre .1 .0) (k .pre .1 .1) many)
 
@@ -152,7 +149,7 @@ value-at-spec =
     tie.close
     (tie.spec
     entry-block-requires
-    le16-requires
+    length-in-requires
     cast-length
     returns
     blocks-requires
@@ -162,9 +159,9 @@ value-at-spec =
     place-requires
     plus-requires
     returns-2
-    le32-requires
+    offset-in-requires
     cast-offset
-    le32-requires-2
+    crc32-in-requires
     new-requires-2
     place-requires-2
     plus-requires-2

@@ -7,17 +7,17 @@ use native.Mathlib.Omega.{arith}
 use lib.ListN.{take, drop}
 use borrow.Author.Needs.{needs}
 use borrow.Author.Tests.{le-leb, lt-leb}
-use Rattle.rules.specs.Entry.{lengthOf, idOf, crc32Of, smallValueBlock}
+use Rattle.rules.specs.Entry.{lengthOf, smallValueBlock}
 use Rattle.rules.proofs.Basics.Notation.{if-true, if-false}
 use Rattle.append.specs.Copy.{copyOf}
 use Rattle.append.proofs.copy.copied.Statement.{statement}
 use Rattle.append.proofs.copy.copied.Tie as tie
 
-le32-requires : tie.Need-le32-requires
-le32-requires c κs = search needs
+id-in-requires : tie.Need-id-in-requires
+id-in-requires c κs = search needs
 
-le16-requires : tie.Need-le16-requires
-le16-requires c κs = search needs
+length-in-requires : tie.Need-length-in-requires
+length-in-requires c κs = search needs
 
 cast-small : tie.Need-cast-small
 cast-small c = search needs
@@ -38,21 +38,20 @@ small-value-requires : tie.Need-small-value-requires
 small-value-requires c κs = search needs
 
 returns : tie.Need-returns
-unfolding idOf lengthOf copyOf
+unfolding copyOf
 returns c =
     let block : List ℕ = c .before .before .before .before .before .before .args .block .now in
-    let len : c .before .before .before .le16 .result ≡ lengthOf block = c .before .before .before .le16 .ensures in
     let few : lengthOf block ≤ 8 = omega (arith, c .before .before .if1 .taken) in
-    let count : 8 + c .before .before .before .le16 .result - 8 ≡ lengthOf block = omega arith in
+    let count : 8 + c .before .before .before .length-in .result - 8 ≡ lengthOf block = omega arith in
     c .small-value .ensures
-    ∙ ap₂ (smallValueBlock _) (c .before .before .before .before .le32 .ensures) (ap (λ (n : ℕ). take n (drop 8 block)) count)
+    ∙ ap₂ (smallValueBlock _) (c .before .before .before .before .id-in .ensures) (ap (λ (n : ℕ). take n (drop 8 block)) count)
     ∙ sym (simp (le-leb (lengthOf block) 8 few, if-true))
 
 mul-offset : tie.Need-mul-offset
 mul-offset c = search needs
 
-le32-requires-2 : tie.Need-le32-requires-2
-le32-requires-2 c κs = search needs
+crc32-in-requires : tie.Need-crc32-in-requires
+crc32-in-requires c κs = search needs
 
 cast-long-value : tie.Need-cast-long-value
 cast-long-value c = search needs
@@ -61,20 +60,19 @@ long-value-requires : tie.Need-long-value-requires
 long-value-requires c κs = search needs
 
 returns-2 : tie.Need-returns-2
-unfolding idOf lengthOf crc32Of copyOf
+unfolding copyOf
 returns-2 c =
     let block : List ℕ = c .before .before .before .before .before .before .args .block .now in
-    let len : c .before .before .before .le16 .result ≡ lengthOf block = c .before .before .before .le16 .ensures in
     let many : 8 < lengthOf block = omega (arith, c .before .before .if1 .left) in
-    let whole = rw (c .before .before .before .before .le32 .ensures, c .before .before .before .le16 .ensures, c .before .le322 .ensures) at (c .long-value .ensures) in
+    let whole = rw (c .before .before .before .before .id-in .ensures, c .before .before .before .length-in .ensures, c .before .crc32-in .ensures) at (c .long-value .ensures) in
     whole ∙ sym (simp (lt-leb (lengthOf block) 8 many, if-false))
 
 pub copied-spec : {M : Type 1} → statement M
 copied-spec =
     tie.close
     (tie.spec
-    le32-requires
-    le16-requires
+    id-in-requires
+    length-in-requires
     cast-small
     add-end
     sub-small-value
@@ -83,7 +81,7 @@ copied-spec =
     small-value-requires
     returns
     mul-offset
-    le32-requires-2
+    crc32-in-requires
     cast-long-value
     long-value-requires
     returns-2)

@@ -2,9 +2,7 @@
 -- Assumes nothing.
 use mathlib.Core.Path.{_≡_, sym, ap, _∙_}
 use Prim.Native.Nat.{_+_, _≤_}
-use native.Mathlib.Omega.{arith}
 use lib.ListN.{length}
-use Rattle.rules.specs.Ground.{blockSize}
 use Rattle.rules.specs.Entry.{idOf}
 use Rattle.layout.specs.Geometry.{blocksOf}
 use Rattle.layout.specs.Numbers.{sectorNo}
@@ -19,21 +17,18 @@ low c =
     let k = c .before .before .before in
     entry-low (k .args .g) (k .args .image .now) (k .pre .0) (sectorNo (k .args .t)) (k .args .n) (k .pre .1 .1 .1 .0) (k .pre .1 .1 .1 .1)
 
-id-read : (c : tie.After-le32) → let k = c .before .before .before .before .before in
-    idOf (entryBlock (k .args .g) (k .args .image .now) (sectorNo (k .args .t)) (k .args .n)) ≡ c .le32 .result
-unfolding idOf
-id-read c = rw (c .before .entry-block .ensures) at (sym (c .le32 .ensures))
+id-read : (c : tie.After-id-in) → let k = c .before .before .before .before .before in
+    idOf (entryBlock (k .args .g) (k .args .image .now) (sectorNo (k .args .t)) (k .args .n)) ≡ c .id-in .result
+id-read c = rw (c .before .entry-block .ensures) at (sym (c .id-in .ensures))
 
 entry-block-requires : tie.Need-entry-block-requires
 entry-block-requires c κs = let k = c .before .before .before in (k .pre .0, (k .pre .1 .1 .1 .0, low c))
 
-le32-requires : tie.Need-le32-requires
-le32-requires c κs =
+id-in-requires : tie.Need-id-in-requires
+id-in-requires c κs =
     let k = c .before .before .before .before in
-    let whole : length (c .entry-block .result .now) ≡ blockSize =
     ap length (c .entry-block .ensures)
-    ∙ entry-whole (k .args .g) (k .args .image .now) (sectorNo (k .args .t)) (k .args .n) (k .pre .0) (k .pre .1 .1 .1 .0) (low (c .before)) in
-    omega arith
+    ∙ entry-whole (k .args .g) (k .args .image .now) (sectorNo (k .args .t)) (k .args .n) (k .pre .0) (k .pre .1 .1 .1 .0) (low (c .before))
 
 returns : tie.Need-returns
 returns c =
@@ -57,4 +52,4 @@ returns-2 c =
 
 pub renewed-entry-spec : {M : Type 1} → statement M
 renewed-entry-spec =
-    tie.close (tie.spec entry-block-requires le32-requires returns find-requires returns-2)
+    tie.close (tie.spec entry-block-requires id-in-requires returns find-requires returns-2)

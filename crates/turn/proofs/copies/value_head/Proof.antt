@@ -6,7 +6,6 @@ use native.Mathlib.Omega.{arith}
 use lib.ListN.{length}
 use borrow.Author.Needs.{needs}
 use Rattle.rules.specs.Ground.{blockSize}
-use Rattle.rules.specs.Entry.{idOf, lengthOf}
 use Rattle.rules.specs.Look.{value}
 use Rattle.rules.proofs.Basics.Places.{at-each}
 use Rattle.layout.specs.Numbers.{sectorNo}
@@ -28,24 +27,23 @@ whole c =
 entry-block-requires : tie.Need-entry-block-requires
 entry-block-requires c κs = let k = c .before in (k .pre .0, (k .pre .1 .0, low k))
 
-le32-requires : tie.Need-le32-requires
-le32-requires c κs = omega (arith, whole c)
+id-in-requires : tie.Need-id-in-requires
+id-in-requires c κs = whole c
 
-le16-requires : tie.Need-le16-requires
-le16-requires c κs = omega (arith, whole (c .before))
+length-in-requires : tie.Need-length-in-requires
+length-in-requires c κs = whole (c .before)
 
 cast-length : tie.Need-cast-length
 cast-length c = search needs
 
 returns : tie.Need-returns
-unfolding idOf lengthOf
 returns c =
     let b = c .before .before in
     let k = b .before .before in
     let typed = at-each (λ x. x < 256) 0 (k .args .image .now) (λ i h. omega (arith, b .before .shared-slice-known .given i)) in
     let told = copied-in (k .args .g) (k .args .image .now) (sectorNo (k .args .s)) (k .args .n) (k .pre .0) typed (k .pre .1 .0) (k .pre .1 .1 .0) (k .pre .1 .1 .1) in
-    ap₂ value (rw (b .entry-block .ensures) at (c .before .le32 .ensures)) (rw (b .entry-block .ensures) at (c .le16 .ensures)) ∙ sym (told .head)
+    ap₂ value (rw (b .entry-block .ensures) at (c .before .id-in .ensures)) (rw (b .entry-block .ensures) at (c .length-in .ensures)) ∙ sym (told .head)
 
 pub value-head-spec : {M : Type 1} → statement M
 value-head-spec =
-    tie.close (tie.spec entry-block-requires le32-requires le16-requires cast-length returns)
+    tie.close (tie.spec entry-block-requires id-in-requires length-in-requires cast-length returns)
