@@ -1,5 +1,5 @@
-/* The stack that each call takes in its dearest case: a thread's stack is painted, the call is made on it, and the paint that is
- * gone is counted, less that of a thread that does nothing. It does not depend on the image's sizes. */
+/* The stack that each call takes: a thread's stack is painted, the call is made on it, and the paint that is gone is counted, less
+ * that of a thread that does nothing. It does not depend on the image's sizes. */
 #define _XOPEN_SOURCE 700 /* pthread_attr_setstack */
 #include "gustorchard.h"
 
@@ -7,14 +7,15 @@
 #include <stdio.h>
 #include <string.h>
 
-enum { SECTOR_SIZE = 1024, SECTORS = 4, VALUE = 8, STACK = 1 << 20, PAINT = 0xA5 };
+enum { SECTOR_SIZE = 1024, SECTORS = 4, VALUE = 64, STACK = 1 << 20, PAINT = 0xA5 };
 
 static uint8_t image[SECTORS * SECTOR_SIZE];
-static uint8_t value[VALUE] = "a value";
+static uint8_t value[VALUE] = "a value of more than 8 bytes, so that it has a CRC-32";
 static uint8_t buffer[VALUE];
 static uint64_t numbers[GUST_NUMBERS];
 static uint8_t stack[STACK] __attribute__((aligned(4096)));
 static uint32_t id, allowance, answer;
+static int wrong;
 
 static void *nothing(void *unused) { return unused; }
 
@@ -66,11 +67,13 @@ static size_t used(void *(*call)(void *))
     return sizeof stack - clean;
 }
 
-static void show(const char *name, void *(*call)(void *), uint32_t due)
+static void show(const char *name, void *(*call)(void *), uint32_t due, uint64_t turns)
 {
     size_t bytes = used(call) - used(nothing);
+    int right = answer == due && numbers[GUST_TURNS] == turns;
 
-    printf("%-24s %6zu bytes%s\n", name, bytes, answer == due ? "" : "  WRONG ANSWER");
+    printf("%-24s %6zu bytes%s\n", name, bytes, right ? "" : "  WRONG ANSWER");
+    wrong += !right;
 }
 
 /* Makes writes of new IDs until one is refused. */
@@ -85,23 +88,25 @@ static void fill(void)
 int main(void)
 {
     allowance = GUST_UNLIMITED;
-    show("format", format_image, GUST_DONE);
-    show("mount, at rest", mount_image, GUST_DONE);
-    fill();
-    show("write, no room", write_value, GUST_NO_ROOM);
+    show("format", format_image, GUST_DONE, 0);
+    show("mount, at rest", mount_image, GUST_DONE, 0);
+    fill(); /* 11 values in each of sectors 0, 1 and 2 */
+    show("write, no room", write_value, GUST_NO_ROOM, 0);
     id = 1;
-    show("read", read_value, GUST_DONE);
-    show("delete", delete_value, GUST_DONE);
-    id = 1000;
+    show("read", read_value, GUST_DONE, 0);
+    show("delete, no turn", delete_value, GUST_DONE, 0);
+    id = 100;
     allowance = 1;
     write_value(NULL);
     allowance = GUST_UNLIMITED;
-    show("mount, mid-turn", mount_image, GUST_DONE);
-    show("write, no turn", write_value, GUST_DONE);
-    fill();
-    id = 2;
+    show("mount, mid-turn", mount_image, GUST_DONE, 1);
+    show("write, no turn", write_value, GUST_DONE, 0);
+    id = 12; /* the oldest of sector 1, which is collected next */
     delete_value(NULL);
-    id = 1001;
-    show("write, a turn", write_value, GUST_DONE);
-    return 0;
+    id = 101;
+    show("write, a turn", write_value, GUST_DONE, 1);
+    for (id = 23; id < 28; id++)
+        delete_value(NULL);
+    show("delete, a turn", delete_value, GUST_DONE, 1);
+    return wrong != 0;
 }

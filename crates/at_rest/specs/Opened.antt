@@ -1,4 +1,4 @@
--- What a write or a delete begins with.
+-- What a read, a write or a delete has of an image at rest: as `Ready`, with outlines.
 use mathlib.Core.Path.{_≡_}
 use mathlib.Core.List.{List}
 use mathlib.Core.Option.{some}

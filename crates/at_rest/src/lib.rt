@@ -31,19 +31,19 @@ use search::value;
 pub fn read(
     image: &[u8],
     g: Geometry,
-    sectors: [Summary; Geometry::MAX_SECTORS],
+    outlines: [Summary; Geometry::MAX_SECTORS],
     w: Sector,
     id: u32,
     buffer: &mut [u8],
 ) -> Reply
     requires { ⌜ Backs g (now image) ⌝ }
-    requires { ⌜ Outlines (viewsIn g (now image)) sectors ⌝ }
+    requires { ⌜ Outlines (viewsIn g (now image)) outlines ⌝ }
     requires { ⌜ sectorNo w < sectorsOf g ⌝ }
     requires { ⌜ (id ≡ reservedId → ⊥) ⌝ }
     ensures answer { λ r. ⌜ r ≡ replyAs (rule.readEntry (length (now (buffer .entry))) (lookup id (history (atRest (sectorNo w)) (viewsIn g (now (image .entry)))))) ⌝ }
     ensures buffer { λ r. ⌜ now (buffer .exit) ≡ rule.bufferAfter (rule.readEntry (length (now (buffer .entry))) (lookup id (history (atRest (sectorNo w)) (viewsIn g (now (image .entry)))))) (now (buffer .entry)) ⌝ }
 {
-    let Found::Value(place, length, check) = search::find(image, g, sectors, w, id) else {
+    let Found::Value(place, length, check) = search::find(image, g, outlines, w, id) else {
         return Reply::Refused(Refusal::Absent);
     };
     if buffer.len() < length {
@@ -97,7 +97,7 @@ fn write_turning(
 pub fn write(
     image: &mut [u8],
     g: Geometry,
-    sectors: [Summary; Geometry::MAX_SECTORS],
+    outlines: [Summary; Geometry::MAX_SECTORS],
     w: Sector,
     id: u32,
     value: &[u8],
@@ -105,7 +105,7 @@ pub fn write(
     allowance: u32,
 ) -> Outcome
     requires { ⌜ Backs g (now image) ⌝ }
-    requires { ⌜ Opened g (now image) sectors (sectorNo w) ⌝ }
+    requires { ⌜ Opened g (now image) outlines (sectorNo w) ⌝ }
     requires { ⌜ (id ≡ reservedId → ⊥) ⌝ }
     requires { ⌜ 1 ≤ length (now value) ⌝ }
     requires { ⌜ need ≡ needOf (look.value id (length (now value))) ⌝ }
@@ -113,14 +113,14 @@ pub fn write(
     ensures { λ r. ⌜ Leaves (blocksOf g * blockSize) (rule.writeOn (blocksOf g) (sectorsOf g) (imageOf (blocksOf g) (sectorsOf g) (now (image .entry))) id (now (value .entry))) allowance (now (image .entry)) (now (image .exit)) r ⌝ }
 {
     let number = w.number();
-    let working = sectors[number];
+    let working = outlines[number];
     if working.scan.needs + need <= g.value_limit() {
         let budget = Budget::new(allowance);
         let left = append::append_value(image, g, w, working, id, value, budget);
         return Outcome::ended(allowance, left, 0);
     }
-    let known = outline::complete(image, g, sectors);
-    write_turning(image, g, known, w, id, value, need, allowance)
+    let sectors = outline::complete(image, g, outlines);
+    write_turning(image, g, sectors, w, id, value, need, allowance)
 }
 
 // The deletion of an ID, where all sectors are known.
@@ -139,49 +139,49 @@ fn delete_turning(
     let Fit::After(turns) = fit::least_turns(image, g, sectors, w, 1, g.deletion_limit()) else {
         return Outcome::refused(Refusal::NoRoom);
     };
-    let rest = change::delete(image, g, sectors, w, turns, id, Budget::new(allowance));
-    Outcome::ended(allowance, rest, turns as u32)
+    let remaining = change::delete(image, g, sectors, w, turns, id, Budget::new(allowance));
+    Outcome::ended(allowance, remaining, turns as u32)
 }
 
 // The deletion of an ID, due as a change. Where it fits as things are, no closed sector is read.
 fn delete_present(
     image: &mut [u8],
     g: Geometry,
-    sectors: [Summary; Geometry::MAX_SECTORS],
+    outlines: [Summary; Geometry::MAX_SECTORS],
     w: Sector,
     id: u32,
     allowance: u32,
 ) -> Outcome
     requires { ⌜ Backs g (now image) ⌝ }
-    requires { ⌜ Opened g (now image) sectors (sectorNo w) ⌝ }
+    requires { ⌜ Opened g (now image) outlines (sectorNo w) ⌝ }
     ensures { λ r. ⌜ Leaves (blocksOf g * blockSize) (rule.changeOn (blocksOf g) (sectorsOf g) (sectorNo w) (blocksOf g - keptFromDeletions) (deletionEntry id) (imageOf (blocksOf g) (sectorsOf g) (now (image .entry)))) allowance (now (image .entry)) (now (image .exit)) r ⌝ }
 {
     let number = w.number();
-    let working = sectors[number];
+    let working = outlines[number];
     if working.scan.needs + 1 <= g.deletion_limit() {
-        let rest = append::append_deletion(image, g, w, working, id, Budget::new(allowance));
-        return Outcome::ended(allowance, rest, 0);
+        let remaining = append::append_deletion(image, g, w, working, id, Budget::new(allowance));
+        return Outcome::ended(allowance, remaining, 0);
     }
-    let known = outline::complete(image, g, sectors);
-    delete_turning(image, g, known, w, id, allowance)
+    let sectors = outline::complete(image, g, outlines);
+    delete_turning(image, g, sectors, w, id, allowance)
 }
 
 // The deletion of an ID that has a value.
 pub fn delete(
     image: &mut [u8],
     g: Geometry,
-    sectors: [Summary; Geometry::MAX_SECTORS],
+    outlines: [Summary; Geometry::MAX_SECTORS],
     w: Sector,
     id: u32,
     allowance: u32,
 ) -> Outcome
     requires { ⌜ Backs g (now image) ⌝ }
-    requires { ⌜ Opened g (now image) sectors (sectorNo w) ⌝ }
+    requires { ⌜ Opened g (now image) outlines (sectorNo w) ⌝ }
     requires { ⌜ (id ≡ reservedId → ⊥) ⌝ }
     ensures { λ r. ⌜ Leaves (blocksOf g * blockSize) (rule.deleteOn (blocksOf g) (sectorsOf g) (imageOf (blocksOf g) (sectorsOf g) (now (image .entry))) id) allowance (now (image .entry)) (now (image .exit)) r ⌝ }
 {
-    let Found::Value(_, _, _) = search::find(image, g, sectors, w, id) else {
+    let Found::Value(_, _, _) = search::find(image, g, outlines, w, id) else {
         return Outcome::refused(Refusal::Absent);
     };
-    delete_present(image, g, sectors, w, id, allowance)
+    delete_present(image, g, outlines, w, id, allowance)
 }

@@ -79,11 +79,11 @@ fn state_with(
     g: Geometry,
     w: Sector,
     unfinished: Mask,
-    sectors: [Summary; Geometry::MAX_SECTORS],
+    outlines: [Summary; Geometry::MAX_SECTORS],
 ) -> Status
     requires { ⌜ Sound g ⌝ }
     requires { ⌜ sectorNo w < sectorsOf g ⌝ }
-    ensures { λ r. ⌜ Decides g sectors (sectorNo w ∷ []) (sectorsIn unfinished) r ⌝ }
+    ensures { λ r. ⌜ Decides g outlines (sectorNo w ∷ []) (sectorsIn unfinished) r ⌝ }
 {
     if unfinished.is_empty() {
         return Status::NotReopened(w);
@@ -96,7 +96,7 @@ fn state_with(
     if spare != next {
         return Status::NoStore;
     }
-    let used = sectors[spare].entries;
+    let used = outlines[spare].entries;
     if used != 0 {
         return Status::NoStore;
     }
@@ -108,11 +108,11 @@ fn decide(
     g: Geometry,
     working: Mask,
     unfinished: Mask,
-    sectors: [Summary; Geometry::MAX_SECTORS],
+    outlines: [Summary; Geometry::MAX_SECTORS],
 ) -> Status
     requires { ⌜ Sound g ⌝ }
     requires { ⌜ ((w : ℕ) → sectorsIn working ≡ w ∷ [] → w < sectorsOf g) ⌝ }
-    ensures { λ r. ⌜ Decides g sectors (sectorsIn working) (sectorsIn unfinished) r ⌝ }
+    ensures { λ r. ⌜ Decides g outlines (sectorsIn working) (sectorsIn unfinished) r ⌝ }
 {
     if working.is_empty() {
         if unfinished.is_one() {
@@ -121,7 +121,7 @@ fn decide(
         return Status::NoStore;
     }
     if working.is_one() {
-        return state_with(g, working.which(), unfinished, sectors);
+        return state_with(g, working.which(), unfinished, outlines);
     }
     Status::NoStore
 }

@@ -14,7 +14,7 @@ use Rattle.image.specs.Answer.{noEntry}
 abbrev pub bucketCount : ℕ
 bucketCount = 4096
 
--- the bucket of an ID: the top bits of its product with an odd number near 2^32 over the golden ratio, so that IDs in a row spread
+-- the bucket of an ID: bits 20 to 31 of its product with 2^32 over the golden ratio, so that IDs in a row spread
 unfoldable pub bucketOf : ℕ → ℕ
 bucketOf id = id * 2654435769 / 1048576 % bucketCount
 

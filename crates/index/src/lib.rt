@@ -18,10 +18,10 @@ use search::Hit;
 
 pub const BUCKETS: usize = 4096;
 
-// As many as a sector can have entries.
+// One for each block of the largest sector, and so for each entry.
 pub const LINKS: usize = 4096;
 
-// The bucket of an ID.
+// The bucket of an ID, by Fibonacci hashing: bits 20 to 31 of its product with 2^32 over the golden ratio, so that IDs in a row spread.
 fn bucket(id: u32) -> usize
     ensures { λ r. ⌜ r ≡ bucketOf id ⌝ }
 {

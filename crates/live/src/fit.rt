@@ -34,6 +34,7 @@ pub fn least_turns(
     requires { ⌜ need ≤ maxSectorSize ⌝ }
     ensures { λ r. ⌜ r ≡ fitAs (leastTurns need limit (sectorNo w) (viewsIn g (now (image .entry)))) ⌝ }
 {
+    // Who has the outlines alone asks this before; it stands here for the rule.
     let number = w.number();
     let open = sectors[number];
     if open.scan.needs + need <= limit {

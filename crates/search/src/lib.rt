@@ -82,12 +82,12 @@ fn newest_at(image: &[u8], g: Geometry, s: Sector, outline: Summary, id: u32) ->
 fn newest_entry(
     image: &[u8],
     g: Geometry,
-    sectors: [Summary; Geometry::MAX_SECTORS],
+    outlines: [Summary; Geometry::MAX_SECTORS],
     w: Sector,
     id: u32,
 ) -> Newest
     requires { ⌜ Backs g (now image) ⌝ }
-    requires { ⌜ Outlines (viewsIn g (now image)) sectors ⌝ }
+    requires { ⌜ Outlines (viewsIn g (now image)) outlines ⌝ }
     requires { ⌜ sectorNo w < sectorsOf g ⌝ }
     requires { ⌜ (id ≡ reservedId → ⊥) ⌝ }
     ensures { λ r. ⌜ r ≡ newestAs (seek id (sectorsOf g) (next (sectorsOf g) (sectorNo w)) (sectorsOf g - 1) (viewsIn g (now (image .entry)))) ⌝ }
@@ -96,7 +96,7 @@ fn newest_entry(
     let mut s = w;
     while left > 0 {
         let number = s.number();
-        let hit = newest_at(image, g, s, sectors[number], id);
+        let hit = newest_at(image, g, s, outlines[number], id);
         if let Hit::At(n) = hit {
             return Newest::Entry(s, n);
         }
@@ -135,17 +135,17 @@ fn value_at(image: &[u8], g: Geometry, s: Sector, n: usize) -> Found
 pub fn find(
     image: &[u8],
     g: Geometry,
-    sectors: [Summary; Geometry::MAX_SECTORS],
+    outlines: [Summary; Geometry::MAX_SECTORS],
     w: Sector,
     id: u32,
 ) -> Found
     requires { ⌜ Backs g (now image) ⌝ }
-    requires { ⌜ Outlines (viewsIn g (now image)) sectors ⌝ }
+    requires { ⌜ Outlines (viewsIn g (now image)) outlines ⌝ }
     requires { ⌜ sectorNo w < sectorsOf g ⌝ }
     requires { ⌜ (id ≡ reservedId → ⊥) ⌝ }
     ensures { λ r. ⌜ r ≡ foundAs (blocksOf g) (imageOf (blocksOf g) (sectorsOf g) (now (image .entry))) (seek id (sectorsOf g) (next (sectorsOf g) (sectorNo w)) (sectorsOf g - 1) (viewsIn g (now (image .entry)))) ⌝ }
 {
-    let Newest::Entry(s, n) = newest_entry(image, g, sectors, w, id) else {
+    let Newest::Entry(s, n) = newest_entry(image, g, outlines, w, id) else {
         return Found::Nothing;
     };
     value_at(image, g, s, n)

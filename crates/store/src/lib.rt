@@ -93,9 +93,9 @@ pub fn read(image: &[u8], sector_size: usize, count: usize, id: u32, buffer: &mu
     }
     let survey = ring::survey(image, g);
     let status = survey.status;
-    let sectors = survey.sectors;
+    let outlines = survey.sectors;
     match open_sector(status) {
-        Open::Working(w) => at_rest::read(image, g, sectors, w, id, buffer),
+        Open::Working(w) => at_rest::read(image, g, outlines, w, id, buffer),
         Open::Refused(refusal) => Reply::Refused(refusal),
     }
 }
@@ -126,9 +126,9 @@ pub fn write(
     }
     let survey = ring::survey(image, g);
     let status = survey.status;
-    let sectors = survey.sectors;
+    let outlines = survey.sectors;
     match open_sector(status) {
-        Open::Working(w) => at_rest::write(image, g, sectors, w, id, value, need, allowance),
+        Open::Working(w) => at_rest::write(image, g, outlines, w, id, value, need, allowance),
         Open::Refused(refusal) => Outcome::refused(refusal),
     }
 }
@@ -151,9 +151,9 @@ pub fn delete(
     }
     let survey = ring::survey(image, g);
     let status = survey.status;
-    let sectors = survey.sectors;
+    let outlines = survey.sectors;
     match open_sector(status) {
-        Open::Working(w) => at_rest::delete(image, g, sectors, w, id, allowance),
+        Open::Working(w) => at_rest::delete(image, g, outlines, w, id, allowance),
         Open::Refused(refusal) => Outcome::refused(refusal),
     }
 }
