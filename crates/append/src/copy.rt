@@ -15,7 +15,6 @@ ghost use Rattle.image.specs.Answer.{summaryAs, viewsIn};
 ghost use Rattle.log.specs.Budget.{Did, Consistent};
 ghost use Rattle.append.specs.Copy.{entryIn, sourceAs, copyOf};
 use entry::Head;
-use entry::build;
 use entry::look;
 use image::Summary;
 use layout::Block;
@@ -75,11 +74,11 @@ fn copied(block: &[u8], cycle: u8, data_end: usize) -> [u8; Geometry::BLOCK_SIZE
     let small = length as usize;
     if small <= entry::SMALL {
         let end = look::BODY_AT + small;
-        return build::small_value(cycle, id, &block[look::BODY_AT..end]);
+        return encode::small_value(cycle, id, &block[look::BODY_AT..end]);
     }
     let offset = data_end * Geometry::BLOCK_SIZE;
     let check = look::crc32_in(block);
-    build::long_value(cycle, id, length, offset as u32, check)
+    encode::long_value(cycle, id, length, offset as u32, check)
 }
 
 // So many data blocks, from block `source` of one sector on, to another sector, upward from block `first`.

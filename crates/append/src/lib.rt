@@ -19,7 +19,6 @@ ghost use Rattle.log.specs.Budget.{kindOf, Did, Consistent};
 ghost use Rattle.append.specs.Append.{withEntry, valueBlocks, aheadStores, entryStores, Fits};
 use entry::Head;
 use entry::Scan;
-use entry::build;
 use entry::look;
 use image::Summary;
 use layout::Block;
@@ -175,10 +174,10 @@ fn value_bytes(cycle: u8, id: u32, value: &[u8], data_end: usize) -> [u8; Geomet
 {
     let length = value.len();
     if length <= entry::SMALL {
-        return build::small_value(cycle, id, value);
+        return encode::small_value(cycle, id, value);
     }
     let offset = data_end * Geometry::BLOCK_SIZE;
-    build::long_value(cycle, id, length as u16, offset as u32, crc::crc32(value))
+    encode::long_value(cycle, id, length as u16, offset as u32, crc::crc32(value))
 }
 
 // A value of an ID goes to the sector that comes to this: its data, and then its entry.
@@ -237,7 +236,7 @@ pub fn append_deletion(
         s,
         summary,
         Head::Deletion(id),
-        build::deletion(summary.cycle, id),
+        encode::deletion(summary.cycle, id),
         budget,
     )
 }
@@ -263,7 +262,7 @@ pub fn append_done(
         s,
         summary,
         Head::Done,
-        build::done(summary.cycle),
+        encode::done(summary.cycle),
         budget,
     )
 }

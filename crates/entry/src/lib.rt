@@ -1,5 +1,4 @@
-// The 16 bytes of an entry: `build` makes them, `look` says what a block is where it lies in the image.
-pub mod build;
+// Says what an entry is: its types and constants, and `look`, what a block is where it lies in the image.
 pub mod look;
 
 // The byte of an erased block.
@@ -9,10 +8,10 @@ pub const ERASED: u8 = 255;
 pub const SMALL: usize = 8;
 
 // The length in a lead.
-const LEAD_LENGTH: u16 = 0xFFFF;
+pub const LEAD_LENGTH: u16 = 0xFFFF;
 
 // The number in bytes 12 to 15 of a lead.
-const LEAD_MARK: u32 = 0x00004201;
+pub const LEAD_MARK: u32 = 0x00004201;
 
 // What the entries before a block in its sector come to: their needs, their data blocks, and whether one is a done.
 pub struct Scan {
@@ -28,7 +27,8 @@ pub enum Head {
     Value(u32, usize),
 }
 
-// The verdict on a block: an entry, with what its sector comes to after it, or the first reason that applies why it is none.
+// The verdict on a block: an entry, with what its sector comes to after it, or the first reason that applies why it is
+// none.
 pub enum Verdict {
     Entry(Head, Scan),
     Blank,

@@ -8,7 +8,6 @@ ghost use Rattle.layout.specs.Numbers.{sectorNo, blockNo};
 ghost use Rattle.layout.specs.Geometry.{blocksOf, sectorsOf, Sound, Backs};
 ghost use Rattle.log.specs.Budget.{kindOf, Did, Consistent};
 ghost use Rattle.formatting.specs.Finals.{OfCycle1, kindBytes};
-use entry::build;
 use layout::Block;
 use layout::Geometry;
 use layout::Sector;
@@ -31,9 +30,9 @@ impl Finals {
         ensures { λ r. ⌜ OfCycle1 r ⌝ }
     {
         Finals {
-            lead: build::lead(1),
-            close: build::close(1),
-            done: build::done(1),
+            lead: encode::lead(1),
+            close: encode::close(1),
+            done: encode::done(1),
         }
     }
 }

@@ -12,7 +12,6 @@ ghost use Rattle.log.specs.Budget.{Did};
 use crate::Budget;
 use crate::Kind;
 use crate::put;
-use entry::build;
 use layout::Block;
 use layout::Geometry;
 use layout::Sector;
@@ -25,5 +24,5 @@ pub fn close(image: &mut [u8], g: Geometry, s: Sector, cycle: u8, budget: Budget
     ensures { λ r. ⌜ Did g (now (image .entry)) (closeSector (blocksOf g) (sectorNo s) (imageOf (blocksOf g) (sectorsOf g) (now (image .entry)))) budget (now (image .exit)) r ⌝ }
 {
     let at = Block::new(g.blocks() - 2);
-    put(image, g, s, at, Kind::Close, build::close(cycle), budget)
+    put(image, g, s, at, Kind::Close, encode::close(cycle), budget)
 }

@@ -18,7 +18,6 @@ use crate::blank::put_blank_if;
 use crate::blocks::is_entry;
 use crate::put;
 use entry::Scan;
-use entry::build;
 use entry::look;
 use layout::Block;
 use layout::Geometry;
@@ -90,7 +89,7 @@ pub fn reopen(image: &mut [u8], g: Geometry, s: Sector, cycle: u8, budget: Budge
         s,
         Block::new(g.blocks() - 1),
         Kind::Lead,
-        build::lead(next),
+        encode::lead(next),
         blanked,
     )
 }

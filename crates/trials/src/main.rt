@@ -2,7 +2,6 @@
 ghost use Prim.Native.Nat.{_<_, _≤_};
 use answer::Outcome;
 use answer::Reply;
-use entry::build;
 use layout::Geometry;
 use log::Kind;
 use log::Last;
@@ -46,21 +45,21 @@ fn closed_sector(image: [u8; IMAGE]) -> [u8; IMAGE] {
         image,
         0,
         4,
-        build::long_value(FIRST, 8, 12, 0, crc::crc32(&text)),
+        encode::long_value(FIRST, 8, 12, 0, crc::crc32(&text)),
     );
-    let image = put(image, 0, 5, build::small_value(FIRST, 7, &old));
-    let image = put(image, 0, 6, build::close(FIRST));
-    put(image, 0, 7, build::lead(FIRST))
+    let image = put(image, 0, 5, encode::small_value(FIRST, 7, &old));
+    let image = put(image, 0, 6, encode::close(FIRST));
+    put(image, 0, 7, encode::lead(FIRST))
 }
 
 // At rest: sector 1 is working, and has a newer value of ID 7; sector 2 is the spare.
 fn rest() -> [u8; IMAGE] {
     let new = [1, 2, 3, 4, 5, 6, 7, 8];
     let image = closed_sector([255; IMAGE]);
-    let image = put(image, 1, 4, build::small_value(SECOND, 7, &new));
-    let image = put(image, 1, 5, build::done(SECOND));
-    let image = put(image, 1, 7, build::lead(SECOND));
-    put(image, 2, 7, build::lead(THIRD))
+    let image = put(image, 1, 4, encode::small_value(SECOND, 7, &new));
+    let image = put(image, 1, 5, encode::done(SECOND));
+    let image = put(image, 1, 7, encode::lead(SECOND));
+    put(image, 2, 7, encode::lead(THIRD))
 }
 
 // The image with the lowest bit of one byte changed.
@@ -77,12 +76,12 @@ fn damaged(image: [u8; IMAGE], s: usize, b: usize, byte: usize) -> [u8; IMAGE]
 
 // As at rest, but with sector 1 closed: none is working.
 fn mid_turn() -> [u8; IMAGE] {
-    put(rest(), 1, 6, build::close(SECOND))
+    put(rest(), 1, 6, encode::close(SECOND))
 }
 
 // And sector 2 working, whose successor is still to be reopened.
 fn not_reopened() -> [u8; IMAGE] {
-    put(mid_turn(), 2, 5, build::done(THIRD))
+    put(mid_turn(), 2, 5, encode::done(THIRD))
 }
 
 // ---- a line for each call
@@ -198,10 +197,10 @@ fn of_rest() {
 
 // A deletion hides the older value; what is no entry ends the reading of its sector; wrong data is told after a short buffer.
 fn of_changed() {
-    let deleted = put(rest(), 1, 3, build::deletion(SECOND, 8));
+    let deleted = put(rest(), 1, 3, encode::deletion(SECOND, 8));
     read(b"deleted", deleted, 8, 16);
     read(b"deleted", deleted, 7, 16);
-    let stale = put(rest(), 1, 3, build::deletion(FIRST, 7));
+    let stale = put(rest(), 1, 3, encode::deletion(FIRST, 7));
     read(b"entry of another cycle", stale, 7, 16);
     let broken = damaged(rest(), 1, 4, 15);
     read(b"newest entry damaged", broken, 7, 16);
@@ -215,9 +214,9 @@ fn of_changed() {
 fn of_states() {
     read(b"mid-turn", mid_turn(), 7, 16);
     read(b"done, not reopened", not_reopened(), 7, 16);
-    let two = put(rest(), 2, 5, build::done(THIRD));
+    let two = put(rest(), 2, 5, encode::done(THIRD));
     read(b"two working", two, 7, 16);
-    let used = put(rest(), 2, 5, build::deletion(THIRD, 7));
+    let used = put(rest(), 2, 5, encode::deletion(THIRD, 7));
     read(b"spare in use", used, 7, 16);
     let lost = damaged(rest(), 2, 7, 9);
     read(b"lead damaged", lost, 7, 16);
@@ -252,9 +251,9 @@ fn of_reads() {
 
 // Mid-turn, with blocks in sector 2 that would read under its next cycle: a close, a done, and behind the copy a deletion.
 fn stale() -> [u8; IMAGE] {
-    let image = put(mid_turn(), 2, 6, build::close(0));
-    let image = put(image, 2, 5, build::done(0));
-    put(image, 2, 4, build::deletion(0, 7))
+    let image = put(mid_turn(), 2, 6, encode::close(0));
+    let image = put(image, 2, 5, encode::done(0));
+    put(image, 2, 4, encode::deletion(0, 7))
 }
 
 // The largest allowance.
