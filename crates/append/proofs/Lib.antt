@@ -2,4 +2,3 @@
 pub mod DataBlocks
 pub mod Appending
 pub mod AfterAppend
-pub mod Copying

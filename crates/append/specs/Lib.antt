@@ -1,3 +1,2 @@
 -- What the contracts of `append` cite, besides the definitions of `rules` and of the crates below.
 pub mod Append
-pub mod Copy

@@ -1,6 +1,4 @@
 // Appends an entry to a sector: its data blocks, the look-ahead, and last the entry itself, with which it shows.
-pub mod copy;
-
 ghost use mathlib.Core.Path.{_≡_};
 ghost use mathlib.Core.Bool.{true};
 ghost use mathlib.Core.List.{_++_};

@@ -33,7 +33,7 @@ use Rattle.live.proofs.LiveLaws.{chosen, chosen-here, chosen-passed, chosen-end
 use Rattle.log.specs.declared.Budget.{Budget}
 use Rattle.log.specs.Budget.{Did, Consistent}
 use Rattle.append.specs.Append.{withEntry}
-use Rattle.append.specs.Copy.{entryIn}
+use Rattle.copying.specs.Copy.{entryIn}
 use Rattle.turn.specs.Copies.{Gathered}
 use Rattle.log.proofs.Laws.{did-none, did-backs, did-consistent, did-whole, did-and-then, did-and-then-cut}
 use Rattle.append.proofs.Appending.{blocksIn, within-done}

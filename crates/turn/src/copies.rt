@@ -18,9 +18,8 @@ ghost use Rattle.image.specs.Answer.{summaryAs, viewsIn};
 ghost use Rattle.live.specs.Live.{liveFlagsIn};
 ghost use Rattle.log.specs.Budget.{Did, Consistent};
 ghost use Rattle.append.specs.Append.{withEntry};
-ghost use Rattle.append.specs.Copy.{entryIn};
+ghost use Rattle.copying.specs.Copy.{entryIn};
 ghost use Rattle.turn.specs.Copies.{Gathered};
-use append::copy;
 use entry::Head;
 use entry::look;
 use image::Summary;
@@ -73,7 +72,7 @@ fn copy_entry(
     ensures summary { λ r. ⌜ r .summary ≡ withEntry summary (entryIn g (now (image .entry)) (sectorNo «from») n .head) ⌝ }
 {
     let head = value_head(image, g, from, n);
-    let left = copy::append_copy(image, g, from, n, to, summary, budget);
+    let left = copying::append_copy(image, g, from, n, to, summary, budget);
     Copied {
         budget: left,
         summary: append::appended(summary, head),

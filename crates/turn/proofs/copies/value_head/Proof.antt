@@ -11,7 +11,7 @@ use Rattle.rules.proofs.Basics.Places.{at-each}
 use Rattle.layout.specs.Numbers.{sectorNo}
 use Rattle.layout.specs.Geometry.{blocksOf}
 use Rattle.image.proofs.EntryBlocks.{entry-low, entry-whole}
-use Rattle.append.proofs.Copying.{copied-in}
+use Rattle.copying.proofs.Copying.{copied-in}
 use Rattle.turn.proofs.copies.value_head.Statement.{statement}
 use Rattle.turn.proofs.copies.value_head.Tie as tie
 

@@ -1,4 +1,4 @@
--- `copy::append_copy`: the entry's block tells its head, where its data blocks lie, and its bytes at the new place; the rest is an append.
+-- `append_copy`: the entry's block tells its head, where its data blocks lie, and its bytes at the new place; the rest is an append.
 -- Assumes nothing.
 use mathlib.Core.Path.{_≡_, sym, ap, ap₂, subst, _∙_}
 use mathlib.Core.Bool.{true}
@@ -21,15 +21,15 @@ use Rattle.layout.specs.Geometry.{blocksOf, sectorsOf}
 use Rattle.entry.specs.declared.Head.the-variants as head
 use Rattle.entry.specs.Answer.{scanOf}
 use Rattle.image.proofs.Laws.{entries-counted}
-use Rattle.append.specs.declared.copy.Source.{Source}
+use Rattle.copying.specs.declared.Source.{Source}
 use Rattle.log.specs.Budget.{Did}
 use Rattle.append.specs.Append.{Fits}
-use Rattle.append.specs.Copy.{entryIn, firstOf, sourceAs, copyOf}
+use Rattle.copying.specs.Copy.{entryIn, firstOf, sourceAs, copyOf}
 use Rattle.log.proofs.Laws.{did-backs, did-consistent}
 use Rattle.append.proofs.Appending.{blocksIn, append-did, append-cut, room, fits}
-use Rattle.append.proofs.Copying.{Copied, copied-in, source-count, source-sized}
-use Rattle.append.proofs.copy.append_copy.Statement.{statement}
-use Rattle.append.proofs.copy.append_copy.Tie as tie
+use Rattle.copying.proofs.Copying.{Copied, copied-in, source-count, source-sized}
+use Rattle.copying.proofs.append_copy.Statement.{statement}
+use Rattle.copying.proofs.append_copy.Tie as tie
 
 -- the entry that is copied, its block, and its sector
 abbrev entryFrom : tie.Start → Entry

@@ -1,4 +1,4 @@
--- `copy::copied`: by its length the value lies in the block, or its check stands behind the offset.
+-- `copied`: by its length the value lies in the block, or its check stands behind the offset.
 -- Assumes nothing.
 use mathlib.Core.Path.{_≡_, sym, ap, ap₂, _∙_}
 use mathlib.Core.List.{List}
@@ -9,9 +9,9 @@ use borrow.Author.Needs.{needs}
 use borrow.Author.Tests.{le-leb, lt-leb}
 use Rattle.rules.specs.Entry.{lengthOf, smallValueBlock}
 use Rattle.rules.proofs.Basics.Notation.{if-true, if-false}
-use Rattle.append.specs.Copy.{copyOf}
-use Rattle.append.proofs.copy.copied.Statement.{statement}
-use Rattle.append.proofs.copy.copied.Tie as tie
+use Rattle.copying.specs.Copy.{copyOf}
+use Rattle.copying.proofs.copied.Statement.{statement}
+use Rattle.copying.proofs.copied.Tie as tie
 
 id-in-requires : tie.Need-id-in-requires
 id-in-requires c κs = search needs

@@ -13,7 +13,7 @@ ghost use Rattle.layout.specs.Geometry.{blocksOf, sectorsOf, Backs};
 ghost use Rattle.entry.specs.Answer.{scanOf};
 ghost use Rattle.image.specs.Answer.{summaryAs, viewsIn};
 ghost use Rattle.log.specs.Budget.{Did, Consistent};
-ghost use Rattle.append.specs.Copy.{entryIn, sourceAs, copyOf};
+ghost use Rattle.copying.specs.Copy.{entryIn, sourceAs, copyOf};
 use entry::Head;
 use entry::look;
 use image::Summary;
@@ -38,7 +38,7 @@ fn block_of(image: &[u8], g: Geometry, s: Sector, b: Block) -> [u8; Geometry::BL
     requires { ⌜ blockNo b < blocksOf g ⌝ }
     ensures { λ r. ⌜ r ≡ blockAt (imageOf (blocksOf g) (sectorsOf g) (now (image .entry))) (sectorNo s) (blockNo b) ⌝ }
 {
-    crate::data_block(layout::block_at(image, g, s, b), 0)
+    append::data_block(layout::block_at(image, g, s, b), 0)
 }
 
 // What the block of a value's entry tells of it.
@@ -152,7 +152,7 @@ pub fn append_copy(
     if laid.cut {
         return laid;
     }
-    crate::put_entry(
+    append::put_entry(
         image,
         g,
         to,

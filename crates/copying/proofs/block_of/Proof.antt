@@ -1,12 +1,12 @@
--- `copy::block_of`: sixteen bytes, with none missing.
+-- `block_of`: sixteen bytes, with none missing.
 -- Assumes nothing.
 use mathlib.Core.Path.{_≡_, _∙_}
 use lib.Seq.{take-at}
 use borrow.Author.Needs.{needs}
 use Rattle.rules.specs.Notation.{erased}
 use Rattle.rules.specs.Ground.{blockSize}
-use Rattle.append.proofs.copy.block_of.Statement.{statement}
-use Rattle.append.proofs.copy.block_of.Tie as tie
+use Rattle.copying.proofs.block_of.Statement.{statement}
+use Rattle.copying.proofs.block_of.Tie as tie
 
 block-at-requires : tie.Need-block-at-requires
 block-at-requires c κs = search needs

@@ -11,7 +11,7 @@ use Rattle.rules.specs.Meaning.{viewAt}
 use Rattle.layout.specs.declared.Geometry.{Geometry}
 use Rattle.image.specs.Answer.{viewsIn}
 use Rattle.image.specs.Answer.{noEntry}
-use Rattle.append.specs.declared.copy.Source.{Source}
+use Rattle.copying.specs.declared.Source.{Source}
 
 -- entry n of sector s, 0 being the sector's oldest
 abbrev pub entryIn : Geometry → List ℕ → (s n : ℕ) → Entry

@@ -36,9 +36,9 @@ use Rattle.image.specs.Answer.{viewsIn}
 use Rattle.image.specs.Answer.{noEntry}
 use Rattle.log.specs.declared.Budget.{Budget}
 use Rattle.log.specs.Budget.{Did}
-use Rattle.append.specs.Copy.{entryIn, firstOf, copyOf}
+use Rattle.copying.specs.Copy.{entryIn, firstOf, copyOf}
 use Rattle.log.proofs.Laws.{did-image}
 use Rattle.append.proofs.Appending.{blocksIn}
 
 -- What the block of a value's entry tells: its head, its data blocks, and its bytes at another place.
 pub record Copied (B : ℕ) (sector : Sector) (block : Block) (e : Entry) : Type 0 where

@@ -1,4 +1,4 @@
--- `copy::copy_data`. The loop's invariant: the first k blocks were stored; so the sector that they come from is as it was.
+-- `copy_data`. The loop's invariant: the first k blocks were stored; so the sector that they come from is as it was.
 -- Assumes nothing.
 use mathlib.Core.Path.{_≡_, sym, ap, _∙_}
 use mathlib.Core.List.{List, []}
@@ -16,11 +16,11 @@ use Rattle.layout.specs.Numbers.{sectorNo, blockNo}
 use Rattle.layout.specs.Geometry.{blocksOf, sectorsOf}
 use Rattle.log.specs.Budget.{Did}
 use Rattle.log.proofs.Laws.{did-none, did-backs}
 use Rattle.append.proofs.DataBlocks.{data-more, data-cut, data-all}
 use Rattle.append.proofs.Appending.{blocksIn}
-use Rattle.append.proofs.Copying.{source-count, source-block, source-sized, source-stays}
-use Rattle.append.proofs.copy.copy_data.Statement.{statement}
-use Rattle.append.proofs.copy.copy_data.Tie as tie
+use Rattle.copying.proofs.Copying.{source-count, source-block, source-sized, source-stays}
+use Rattle.copying.proofs.copy_data.Statement.{statement}
+use Rattle.copying.proofs.copy_data.Tie as tie
 
 -- the blocks that are copied
 abbrev blocksFrom : Geometry → List ℕ → (s source count : ℕ) → List Block

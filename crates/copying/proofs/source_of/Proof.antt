@@ -1,4 +1,4 @@
--- `copy::source_of`: the fields of the block, the offset in blocks where there is one.
+-- `source_of`: the fields of the block, the offset in blocks where there is one.
 -- Assumes nothing.
 use mathlib.Core.Path.{_≡_, sym, ap, _∙_}
 use mathlib.Core.List.{List}
@@ -9,9 +9,9 @@ use borrow.Author.Tests.{le-leb, lt-leb}
 use Rattle.rules.specs.Ground.{blockSize}
 use Rattle.rules.specs.Entry.{lengthOf}
 use Rattle.rules.proofs.Basics.Notation.{if-true, if-false}
-use Rattle.append.specs.Copy.{firstOf}
-use Rattle.append.proofs.copy.source_of.Statement.{statement}
-use Rattle.append.proofs.copy.source_of.Tie as tie
+use Rattle.copying.specs.Copy.{firstOf}
+use Rattle.copying.proofs.source_of.Statement.{statement}
+use Rattle.copying.proofs.source_of.Tie as tie
 
 id-in-requires : tie.Need-id-in-requires
 id-in-requires c κs = search needs
