@@ -4,7 +4,8 @@
  * Each call gives back the number of its answer, and on every answer it tells three more numbers in the lent array `numbers`:
  * stores, turns and length, each 0 where the answer has none. An array of fewer than GUST_NUMBERS places gets the first ones, and
  * further places are left as they are. A damaged image, sizes that are off, a bad ID or a value that is too long do no harm: they
- * are answered by a refusal, and a refusal changes no byte of the image or of the buffer.
+ * are answered by a refusal, and a refusal changes no byte of the image or of the buffer. A read leaves the image as it is on every
+ * answer, and a write the value.
  *
  * An allowance is the most stores (whole blocks of 16 bytes) that a call may make. A call that is due more makes the first so many,
  * in order, and answers GUST_CUT: what a loss of power at that point would leave.

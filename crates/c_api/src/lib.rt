@@ -87,6 +87,7 @@ pub extern "C" fn gust_read(
 ) -> u32
     ensures answer { λ r. ⌜ Tells (rule.replyNumbers (rule.read «sector_size» count (now (image .entry)) id (length (now (buffer .entry))))) (now (numbers .entry)) (now (numbers .exit)) r ⌝ }
     ensures buffer { λ _. ⌜ now (buffer .exit) ≡ rule.bufferAfter (rule.read «sector_size» count (now (image .entry)) id (length (now (buffer .entry)))) (now (buffer .entry)) ⌝ }
+    ensures image { λ _. ⌜ now (image .exit) ≡ now (image .entry) ⌝ }
 {
     let reply = store::read(image, sector_size, count, id, buffer);
     tell_reply(reply, numbers)
@@ -105,6 +106,7 @@ pub extern "C" fn gust_write(
 ) -> u32
     ensures answer { λ r. ⌜ Tells (rule.answerNumbers (rule.answer (rule.writeDue «sector_size» count (now (image .entry)) id (now (value .entry))) allowance)) (now (numbers .entry)) (now (numbers .exit)) r ⌝ }
     ensures image { λ _. ⌜ now (image .exit) ≡ rule.leaves «sector_size» (rule.writeDue «sector_size» count (now (image .entry)) id (now (value .entry))) allowance (now (image .entry)) ⌝ }
+    ensures value { λ _. ⌜ now (value .exit) ≡ now (value .entry) ⌝ }
 {
     let outcome = store::write(image, sector_size, count, id, value, allowance);
     let answer = outcome.answer;

@@ -109,7 +109,8 @@ pub fn write(
     value: &[u8],
     allowance: u32,
 ) -> Outcome
-    ensures { λ r. ⌜ Leaves «sector_size» (rule.writeDue «sector_size» count (now (image .entry)) id (now (value .entry))) allowance (now (image .entry)) (now (image .exit)) r ⌝ }
+    ensures outcome { λ r. ⌜ Leaves «sector_size» (rule.writeDue «sector_size» count (now (image .entry)) id (now (value .entry))) allowance (now (image .entry)) (now (image .exit)) r ⌝ }
+    ensures value { λ r. ⌜ now (value .exit) ≡ now (value .entry) ⌝ }
 {
     let Sizes::Legal(g) = Geometry::new(sector_size, count, image.len()) else {
         return Outcome::refused(Refusal::Geometry);

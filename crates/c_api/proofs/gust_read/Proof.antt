@@ -1,5 +1,6 @@
 -- `gust_read`: what `store::read` answers, told.
 -- Assumes nothing.
+use mathlib.Core.Path.{refl}
 use borrow.Author.Needs.{needs}
 use Rattle.c_api.proofs.gust_read.Statement.{statement}
 use Rattle.c_api.proofs.gust_read.Tie as tie
@@ -20,7 +21,7 @@ returns : tie.Need-returns
 returns c =
     let t = c .before .before in
     let s = t .before .before .before .before in
-    (rw (s .read .ensures .0) at (t .tell-reply .ensures), s .read .ensures .1 .0)
+    (rw (s .read .ensures .0) at (t .tell-reply .ensures), (s .read .ensures .1 .0, refl))
 
 pub gust-read-spec : {M : Type 1} → statement M
 gust-read-spec =

@@ -48,7 +48,7 @@ same-length-3 c = search needs
 
 returns-3 : tie.Need-returns-3
 unfolding dueOf
-returns-3 c = rw (c .before .before .before .before .before .command .given .1) (c .before .before .write .ensures)
+returns-3 c = rw (c .before .before .before .before .before .command .given .1) (c .before .before .write .ensures .0)
 
 same-length-4 : tie.Need-same-length-4
 same-length-4 c = search needs

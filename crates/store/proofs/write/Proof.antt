@@ -67,7 +67,7 @@ unfolding refusalOf
 returns c =
     let a = c .before .before .before .before .before .before .args in
     let due = write-illegal (a .sector-size) (a .count) (a .image .now) (a .id) (a .value .now) (sym (c .before .before .before .new .ensures) ∙ c .before .enum-told .given .1) in
-    subst (Leaves _ _ _ _ _) (sym (c .refused .ensures)) (leaves-refused (a .sector-size) (a .allowance) (a .image .now) refusal.Geometry due)
+    (subst (Leaves _ _ _ _ _) (sym (c .refused .ensures)) (leaves-refused (a .sector-size) (a .allowance) (a .image .now) refusal.Geometry due), refl)
 
 refused-requires-2 : tie.Need-refused-requires-2
 refused-requires-2 c κs = search needs
@@ -79,7 +79,7 @@ returns-2 c =
     let a = l .before .before .before .before .before .before .args in
     let g = l .before .g .given .0 .0 in
     let due = write-legal (a .sector-size) (a .count) (a .image .now) (a .id) (a .value .now) g (legal l) ∙ write-reserved g (a .image .now) (a .id) (a .value .now) (c .before .if1 .taken) in
-    subst (Leaves _ _ _ _ _) (sym (c .refused2 .ensures)) (leaves-refused (a .sector-size) (a .allowance) (a .image .now) refusal.Reserved due)
+    (subst (Leaves _ _ _ _ _) (sym (c .refused2 .ensures)) (leaves-refused (a .sector-size) (a .allowance) (a .image .now) refusal.Reserved due), refl)
 
 refused-requires-3 : tie.Need-refused-requires-3
 refused-requires-3 c κs = search needs
@@ -91,7 +91,7 @@ returns-3 c =
     let a = l .before .before .before .before .before .before .args in
     let g = l .before .g .given .0 .0 in
     let due = write-legal (a .sector-size) (a .count) (a .image .now) (a .id) (a .value .now) g (legal l) ∙ write-empty g (a .image .now) (a .id) (a .value .now) (c .before .before .if1 .left) (c .before .if2 .taken) in
-    subst (Leaves _ _ _ _ _) (sym (c .refused3 .ensures)) (leaves-refused (a .sector-size) (a .allowance) (a .image .now) refusal.Empty due)
+    (subst (Leaves _ _ _ _ _) (sym (c .refused3 .ensures)) (leaves-refused (a .sector-size) (a .allowance) (a .image .now) refusal.Empty due), refl)
 
 data-blocks-requires : tie.Need-data-blocks-requires
 data-blocks-requires c κs = search needs
@@ -114,7 +114,7 @@ returns-4 c =
     let g = l .before .g .given .0 .0 in
     let long : blocksOf g - keptFromValues < needOf (look.value (a .id) (length (a .value .now))) = omega (arith, c .before .if3 .taken, c .before .before .value-limit .ensures, needed d) in
     let due = write-legal (a .sector-size) (a .count) (a .image .now) (a .id) (a .value .now) g (legal l) ∙ write-too-long g (a .image .now) (a .id) (a .value .now) (d .before .before .if1 .left) (omega (arith, d .before .if2 .left)) long in
-    subst (Leaves _ _ _ _ _) (sym (c .refused4 .ensures)) (leaves-refused (a .sector-size) (a .allowance) (a .image .now) refusal.TooLong due)
+    (subst (Leaves _ _ _ _ _) (sym (c .refused4 .ensures)) (leaves-refused (a .sector-size) (a .allowance) (a .image .now) refusal.TooLong due), refl)
 
 survey-requires : tie.Need-survey-requires
 survey-requires c κs = backs (c .before .before .before .before .before .before)
@@ -152,8 +152,10 @@ returns-5 c =
     let l = c .before .before .before .before .before .before .before .before .before .before .before .before .before .before .before .before in
     let a = l .before .before .before .before .before .before .args in
     let g = l .before .g .given .0 .0 in
+    let left =
     leaves-given g (a .sector-size) (from-sizes (a .sector-size) (a .count) _ g (legal l) .blocks)
-    (write-legal (a .sector-size) (a .count) (a .image .now) (a .id) (a .value .now) g (legal l)) (c .before .before .write .ensures)
+    (write-legal (a .sector-size) (a .count) (a .image .now) (a .id) (a .value .now) g (legal l)) (c .before .before .write .ensures) in
+    (left, refl)
 
 same-length-2 : tie.Need-same-length-2
 same-length-2 c = search needs
@@ -169,7 +171,7 @@ returns-6 c =
     let due =
     write-legal (a .sector-size) (a .count) (a .image .now) (a .id) (a .value .now) g (legal l)
     ∙ write-unready g (a .image .now) (a .id) (a .value .now) (d .before .before .if1 .left) (omega (arith, d .before .if2 .left)) fits (opened o ∙ c .before .before .refusal .given .1) in
-    subst (Leaves _ _ _ _ _) (sym (c .refused5 .ensures)) (leaves-refused (a .sector-size) (a .allowance) (a .image .now) _ due)
+    (subst (Leaves _ _ _ _ _) (sym (c .refused5 .ensures)) (leaves-refused (a .sector-size) (a .allowance) (a .image .now) _ due), refl)
 
 pub write-spec : {M : Type 1} → statement M
 write-spec =
