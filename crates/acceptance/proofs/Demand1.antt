@@ -110,11 +110,12 @@ demand1 =
       };
       formats = λ size count. pinned (λ before a after r x. x .meets) (λ before a after r l. record { lifetimes = ([], tt); image = somewhere; meets = l });
       mounts = λ size count. pinned (λ before a after r x. x .meets) (λ before a after r l. record { lifetimes = ([], tt); image = somewhere; meets = l });
-      writes = λ size count id value. pinned (λ before a after r x. x .meets) (λ before a after r l. record { lifetimes = ([], ([], tt)); image = somewhere; source = somewhere; meets = l });
+      writes = λ size count id value. pinned (λ before a after r x. x .meets .0) (λ before a after r l. record { lifetimes = ([], ([], tt)); image = somewhere; source = somewhere; valueAfter = value; meets = (l, refl) });
       deletes = λ size count id. pinned (λ before a after r x. x .meets) (λ before a after r l. record { lifetimes = ([], tt); image = somewhere; meets = l });
       reads = pinned-read;
+      valueUntouched = λ x. x .meets .1;
       formatFew = λ size count. record { few = λ {before} {a} bytes x. subst (FewDiffer a before) (sym (x .meets .image)) (format-few size count before a) };
       mountFew = λ size count. record { few = λ bytes x. runs-few size count (rules.mount 0) (rules.mounts none-allowed) (x .meets) bytes };
-      writeFew = λ size count id value named typed. record { few = λ bytes x. runs-few size count (rules.write id value 0) (rules.writes named typed none-allowed) (x .meets) bytes };
+      writeFew = λ size count id value named typed. record { few = λ bytes x. runs-few size count (rules.write id value 0) (rules.writes named typed none-allowed) (x .meets .0) bytes };
       deleteFew = λ size count id named. record { few = λ bytes x. runs-few size count (rules.delete id 0) (rules.deletes named none-allowed) (x .meets) bytes };
     }

@@ -66,16 +66,16 @@ demand2 =
     record {
       formats = λ size count. obeys (λ before a after r x. x .meets);
       mounts = λ size count. obeys (λ before a after r x. x .meets);
-      writes = λ size count id value. obeys (λ before a after r x. x .meets);
+      writes = λ size count id value. obeys (λ before a after r x. x .meets .0);
       deletes = λ size count id. obeys (λ before a after r x. x .meets);
       reads = λ size count id. record { answers = λ x. x .meets .0; fills = λ x. x .meets .1 .0 };
       readBack = λ {size} {count} {id} {value} {before} {a} typed named bytes x zero′.
-          reads-back (subst (λ (l : List ℕ). IsReadBack size count before l id (some value)) (sym (x .meets .image)) (read-back size count before id value a typed named bytes (sym (same-number (x .meets)) ∙ zero′)));
+          reads-back (subst (λ (l : List ℕ). IsReadBack size count before l id (some value)) (sym (x .meets .0 .image)) (read-back size count before id value a typed named bytes (sym (same-number (x .meets .0)) ∙ zero′)));
       deleteBack = λ {size} {count} {id} {before} {a} typed named x zero′.
           reads-back (subst (λ (l : List ℕ). IsReadBack size count before l id none) (sym (x .meets .image)) (delete-back size count before id a typed named (sym (same-number (x .meets)) ∙ zero′)));
       meaning = meaning;
       mountTurns = λ size count. record { moves = λ {before} {a} bytes small rests x zero′. shown size count (rules.mount a) (rules.mounts small) (x .meets) bytes rests zero′ };
-      writeTurns = λ size count id value named typed. record { moves = λ {before} {a} bytes small rests x zero′. shown size count (rules.write id value a) (rules.writes named typed small) (x .meets) bytes rests zero′ };
+      writeTurns = λ size count id value named typed. record { moves = λ {before} {a} bytes small rests x zero′. shown size count (rules.write id value a) (rules.writes named typed small) (x .meets .0) bytes rests zero′ };
       deleteTurns = λ size count id named. record { moves = λ {before} {a} bytes small rests x zero′. shown size count (rules.delete id a) (rules.deletes named small) (x .meets) bytes rests zero′ };
       mountTells = λ {size} {count} {before} {state} {a} found x zero′.
           let lands = sym (same-number (x .meets)) ∙ zero′ in

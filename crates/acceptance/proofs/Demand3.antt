@@ -19,7 +19,7 @@ unfolding due budget
 safe {size} {count} (formatted {bytes} {a} typed x zero′) =
     subst (λ (l : List ℕ). Safe size count (record { image = l; model = emptyModel })) (sym (x .meets .image)) (safe-format size count bytes a typed (sym (same-number (x .meets)) ∙ zero′))
 safe {size} {count} (mounted {book = book} {a = a} small h x) = kept size count (rules.mount a) (rules.mounts small) (x .meets) book (safe h)
-safe {size} {count} (written {book = book} {id = id} {value = value} {a = a} named typed small h x) = kept size count (rules.write id value a) (rules.writes named typed small) (x .meets) book (safe h)
+safe {size} {count} (written {book = book} {id = id} {value = value} {a = a} named typed small h x) = kept size count (rules.write id value a) (rules.writes named typed small) (x .meets .0) book (safe h)
 safe {size} {count} (deleted {book = book} {id = id} {a = a} named small h x) = kept size count (rules.delete id a) (rules.deletes named small) (x .meets) book (safe h)
 
 -- what the rules say of an image at rest, of the runs on it
@@ -32,9 +32,9 @@ serves at =
       tells = at .matches;
       reads = λ {id} user x. reads-as (at .reads id user) x;
       refuses = λ {id} {value} {a} {after} {r} fits x.
-          let same = x .meets .numbers in
-          ((λ e. at .refuses id value a fits .0 (sym same ∙ no-room (r .answer) e)), (λ full. same-number (x .meets) ∙ ap (λ (n : rule.Numbers). n .number) (at .refuses id value a fits .1 full)));
-      writes = λ id value fits room. completes (λ a after r x. x .meets .numbers) (at .writes id value fits room);
+          let same = x .meets .0 .numbers in
+          ((λ e. at .refuses id value a fits .0 (sym same ∙ no-room (r .answer) e)), (λ full. same-number (x .meets .0) ∙ ap (λ (n : rule.Numbers). n .number) (at .refuses id value a fits .1 full)));
+      writes = λ id value fits room. completes (λ a after r x. x .meets .0 .numbers) (at .writes id value fits room);
       deletes = λ id {value} user holds. completes (λ a after r x. x .meets .numbers) (at .deletes id value user holds);
     }
 

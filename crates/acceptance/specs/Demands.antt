@@ -76,6 +76,9 @@ pub record Demand1 : Type 0 where
   pub writes : (size count id : ℕ) (value : List ℕ) → Pinned size (λ image. rule.writeDue size count image id value) (Writes size count id value)
   pub deletes : (size count id : ℕ) → Pinned size (λ image. rule.deleteDue size count image id) (Deletes size count id)
   pub reads : (size count id : ℕ) → PinnedRead size count id
+  -- no answer of a write changes the value that it was lent
+  pub valueUntouched : {size count id : ℕ} {value before : List ℕ} {a : ℕ} {after : List ℕ} {r : Outcome}
+      → (x : Writes size count id value before a after r) → x .valueAfter ≡ value
   pub formatFew : (size count : ℕ) → ChangesFew (Formats size count)
   pub mountFew : (size count : ℕ) → ChangesFew (Mounts size count)
   pub writeFew : (size count id : ℕ) (value : List ℕ) → IsId id → AreBytes value → ChangesFew (Writes size count id value)

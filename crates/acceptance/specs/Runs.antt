@@ -31,11 +31,13 @@ pub record Mounts (size count : ℕ) (before : List ℕ) (allowance : ℕ) (afte
   pub image : Address
   pub meets : mount.Post lifetimes (lent image before, (size, (count, (allowance, tt)))) r (lent image after, (size, (count, (allowance, tt))))
 
+-- The value of a write is lent by `&`, as the image of a read is: what stands there after it is the contract's to say.
 pub record Writes (size count id : ℕ) (value before : List ℕ) (allowance : ℕ) (after : List ℕ) (r : Outcome) : Type 0 where
   pub lifetimes : Lfts 2
   pub image : Address
   pub source : Address
-  pub meets : write.Post lifetimes (lent image before, (size, (count, (id, (lent source value, (allowance, tt)))))) r (lent image after, (size, (count, (id, (lent source value, (allowance, tt))))))
+  pub valueAfter : List ℕ
+  pub meets : write.Post lifetimes (lent image before, (size, (count, (id, (lent source value, (allowance, tt)))))) r (lent image after, (size, (count, (id, (lent source valueAfter, (allowance, tt))))))
 
 pub record Deletes (size count id : ℕ) (before : List ℕ) (allowance : ℕ) (after : List ℕ) (r : Outcome) : Type 0 where
   pub lifetimes : Lfts 1
