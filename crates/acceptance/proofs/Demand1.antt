@@ -14,6 +14,7 @@ use Rattle.rules.specs.Demands as rules
 use Rattle.rules.specs.Demands.{AreBytes, Call, Typed, due, FewDiffer, gives}
 use Rattle.rules.proofs.Basics.Notation.{by-test}
 use Rattle.rules.proofs.Due.Calls.{answer-whole, answer-cut, made-make}
+use Rattle.rules.proofs.Crash.ReadBack.{none-allowed}
 use Rattle.rules.proofs.Crash.Pinned.{number-leaves, number-buffer, format-few, call-few}
 use Rattle.log.specs.declared.Last.the-variants as last
 use Rattle.log.specs.Budget.{lastOf}
@@ -22,7 +23,7 @@ use Rattle.answer.specs.Answer.{Leaves, replyNumbersOf}
 use Rattle.acceptance.specs.Runs.{Address}
 use Rattle.acceptance.specs.Demands.{told, Storing, IsCut, Pinned, PinnedRead, Demand1}
 use Rattle.acceptance.proofs.Numbers.{refusal-most, same-answer, same-reply, some-answer, some-reply}
-use Rattle.acceptance.proofs.Steps.{none-allowed, same-number}
+use Rattle.acceptance.proofs.Steps.{same-number}
 
 -- an answer 11 is a cut, and the other way round
 cut-is : (what : Due) (a : ℕ) → answerNumbers (rule.answer what a) .number ≡ 11 → IsCut what a

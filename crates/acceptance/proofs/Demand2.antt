@@ -1,5 +1,5 @@
 -- Demand 2: the calls do what the rules say, what is written reads back, and an image has one meaning.
-use mathlib.Core.Path.{_≡_, sym, ap, subst, _∙_}
+use mathlib.Core.Path.{_≡_, sym, ap, subst, subst₂, _∙_}
 use mathlib.Core.Bool.{true}
 use mathlib.Core.List.{List}
 use mathlib.Core.Option.{Option, none, some}
@@ -7,22 +7,21 @@ use Prim.Native.Nat.{ℕ}
 use lib.ListN.{length}
 use borrow.Author.Tests.{ne-eqb}
 use Rattle.rules.specs.Ground.{legalSizes, reservedId}
-use Rattle.rules.specs.Meaning.{atRest, stateOf, history, lookup}
+use Rattle.rules.specs.Meaning.{atRest, history, lookup}
 use Rattle.rules.specs.Calls as rule
 use Rattle.rules.specs.Calls.{Due, Numbers, replyNumbers}
 use Rattle.rules.specs.Demands as rules
-use Rattle.rules.specs.Demands.{AreBytes, IsUser, IsReadBack, ReadBack, DeleteBack, due, budget, views}
+use Rattle.rules.specs.Demands.{AreBytes, IsUser, IsReadBack, ReadBack, DeleteBack, MountedFrom, MountShows, due, budget, views}
 use Rattle.rules.proofs.Basics.Notation.{if-false}
-use Rattle.rules.proofs.Crash.Landed.{call-legal, rest-whole, rest-told}
+use Rattle.rules.proofs.Crash.Landed.{rest-whole, rest-told}
 use Rattle.rules.proofs.Crash.Reads.{settled-read}
 use Rattle.rules.proofs.Crash.ReadBack.{read-back, delete-back}
-use Rattle.rules.proofs.Crash.TurnsShow.{mount-turns-show}
+use Rattle.rules.proofs.Crash.MountShows.{no-store, mount-shows}
 use Rattle.answer.specs.declared.Outcome.{Outcome}
 use Rattle.answer.specs.declared.Reply.{Reply}
 use Rattle.answer.specs.Answer.{Leaves}
 use Rattle.acceptance.specs.Demands.{Storing, Obeys, ReadsBack, OneMeaning, Demand2}
 use Rattle.acceptance.proofs.Numbers.{same-reply}
-use Rattle.acceptance.proofs.Mounting.{no-store, mount-rests}
 use Rattle.acceptance.proofs.Steps.{same-number, reads-as, shown}
 
 obeys : {size : ℕ} {due : List ℕ → Due} {run : Storing} → ((before : List ℕ) (a : ℕ) (after : List ℕ) (r : Outcome) → run before a after r → Leaves size (due before) a before after r)
@@ -44,15 +43,15 @@ module _ {size count : ℕ} {before after : List ℕ} {id : ℕ} {entry : Option
 
 module _ (size count : ℕ) (image : List ℕ) (typed : AreBytes image) (legal : legalSizes size count (length image) ≡ true) where
   meaning : OneMeaning size count image
-  unfolding IsUser
+  unfolding IsUser MountShows
   meaning =
       record {
         noStore = λ {a} x.
             let both = no-store size count image legal a in
             ((λ e. both .0 (sym (same-number (x .meets)) ∙ e)), (λ none′. same-number (x .meets) ∙ both .1 none′));
-        rests = λ {a} {after} x zero′.
-            subst (λ (l : List ℕ). (w : ℕ) × (stateOf (views size count l) ≡ some (atRest w))) (sym (x .meets .image))
-            (mount-rests size count image legal typed a (sym (same-number (x .meets)) ∙ zero′));
+        rests = λ {state} {a} is x zero′.
+            subst₂ (λ (l : List ℕ) (n : Numbers). MountedFrom size count state image n l) (sym (x .meets .image)) (sym (x .meets .numbers))
+            (mount-shows size count image a state typed is (sym (same-number (x .meets)) ∙ zero′));
         newest = λ {w} {id} {buffer} rests user x.
             let q = rest-told size count image typed legal w rests in
             let found : rule.read size count image id (length buffer) ≡ rule.readEntry (length buffer) (lookup id (history (atRest w) (views size count image))) =
@@ -77,7 +76,4 @@ demand2 =
       mountTurns = λ size count. record { moves = λ {before} {a} bytes small rests x zero′. shown size count (rules.mount a) (rules.mounts small) (x .meets) bytes rests zero′ };
       writeTurns = λ size count id value named typed. record { moves = λ {before} {a} bytes small rests x zero′. shown size count (rules.write id value a) (rules.writes named typed small) (x .meets .0) bytes rests zero′ };
       deleteTurns = λ size count id named. record { moves = λ {before} {a} bytes small rests x zero′. shown size count (rules.delete id a) (rules.deletes named small) (x .meets) bytes rests zero′ };
-      mountTells = λ {size} {count} {before} {state} {a} found x zero′.
-          let lands = sym (same-number (x .meets)) ∙ zero′ in
-          ap (λ (n : Numbers). n .turns) (x .meets .numbers) ∙ mount-turns-show size count before a state (call-legal size count before a (rules.mount a) lands) found lands;
     }

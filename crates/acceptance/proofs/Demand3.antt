@@ -1,26 +1,37 @@
 -- Demand 3: after any list of calls the image tells what the book says.
-use mathlib.Core.Path.{sym, ap, subst, _∙_}
-use mathlib.Core.List.{List}
+use mathlib.Core.Path.{_≡_, refl, sym, ap, subst, subst₂, _∙_}
+use mathlib.Core.List.{List, [], _∷_}
 use Prim.Native.Nat.{ℕ}
+use Rattle.rules.specs.Notation.{Each, empty, each}
 use Rattle.rules.specs.Calls as rule
 use Rattle.rules.specs.Demands as rules
 use Rattle.rules.specs.Demands.{Call, Typed, Model, emptyModel, modelAfter, due, budget}
-use Rattle.rules.specs.BenchSheet.{plenty}
-use Rattle.rules.proofs.Bench.Fresh.{fresh-made}
+use Rattle.rules.proofs.Crash.Fresh.{format-succeeds}
 use Rattle.rules.proofs.Crash.Safe.{Safe, safe-format, safe-store, safe-mounts}
-use Rattle.acceptance.specs.Demands.{told, Reachable, formatted, mounted, written, deleted, Serves, Demand3, Histories}
+use Rattle.answer.specs.declared.Outcome.{Outcome}
+use Rattle.acceptance.specs.Demands.{told, Fresh, formatted, Runs, mounted, written, deleted, Ran, ended, called, Serves, Holds, Demand3, Histories}
 use Rattle.acceptance.proofs.Numbers.{no-room}
 use Rattle.acceptance.proofs.Demand1.{demand1}
 use Rattle.acceptance.proofs.Steps.{same-number, reads-as, completes, kept}
 
--- every list keeps the invariant of the rules
-safe : {size count : ℕ} {image : List ℕ} {book : Model} → Reachable size count image book → Safe size count (record { image = image; model = book })
-unfolding due budget
-safe {size} {count} (formatted {bytes} {a} typed x zero′) =
+-- a format begins the invariant of the rules
+fresh-safe : {size count : ℕ} {fresh : List ℕ} → Fresh size count fresh → Safe size count (record { image = fresh; model = emptyModel })
+fresh-safe {size} {count} (formatted {bytes} {a} typed x zero′) =
     subst (λ (l : List ℕ). Safe size count (record { image = l; model = emptyModel })) (sym (x .meets .image)) (safe-format size count bytes a typed (sym (same-number (x .meets)) ∙ zero′))
-safe {size} {count} (mounted {book = book} {a = a} small h x) = kept size count (rules.mount a) (rules.mounts small) (x .meets) book (safe h)
-safe {size} {count} (written {book = book} {id = id} {value = value} {a = a} named typed small h x) = kept size count (rules.write id value a) (rules.writes named typed small) (x .meets .0) book (safe h)
-safe {size} {count} (deleted {book = book} {id = id} {a = a} named small h x) = kept size count (rules.delete id a) (rules.deletes named small) (x .meets) book (safe h)
+
+-- a call keeps it
+call-safe : {size count : ℕ} {call : Call} {before after : List ℕ} {r : Outcome} (book : Model) → Typed call → Runs size count call before after r
+    → Safe size count (record { image = before; model = book }) → Safe size count (record { image = after; model = modelAfter call (told r .number) book })
+unfolding due budget
+call-safe {size} {count} {call} book typed (mounted x) h = kept size count call typed (x .meets) book h
+call-safe {size} {count} {call} book typed (written x) h = kept size count call typed (x .meets .0) book h
+call-safe {size} {count} {call} book typed (deleted x) h = kept size count call typed (x .meets) book h
+
+-- and so does a list
+list-safe : {size count : ℕ} {calls : List Call} {before after : List ℕ} {book bookAfter : Model} → Each Typed calls → Ran size count calls before book after bookAfter
+    → Safe size count (record { image = before; model = book }) → Safe size count (record { image = after; model = bookAfter })
+list-safe empty ended h = h
+list-safe (each typed rest) (called {book = book} x ran) h = list-safe rest ran (call-safe book typed x h)
 
 -- what the rules say of an image at rest, of the runs on it
 serves : {size count : ℕ} {image : List ℕ} {book : Model} → rules.AtRest size count image book → Serves size count image book
@@ -38,11 +49,12 @@ serves at =
       deletes = λ id {value} user holds. completes (λ a after r x. x .meets .numbers) (at .deletes id value user holds);
     }
 
-pub demand3 : Demand3
-unfolding Demand3 completes
-demand3 size count image book h =
+-- what the invariant promises, of the runs
+holds : {size count : ℕ} {image : List ℕ} {book : Model} → Safe size count (record { image = image; model = book }) → Holds size count image book
+unfolding completes
+holds {size} {count} {image} {book} safe =
     record {
-      store = safe-store size count now (safe h);
+      store = safe-store size count now safe;
       mounts = completes (λ a after r x. x .meets .numbers) (mounts .succeeds);
       serves = λ {a} x enough. serves (subst (λ (l : List ℕ). rules.AtRest size count l book) (sym (x .meets .image)) (mounts .rests a enough));
     }
@@ -51,22 +63,39 @@ demand3 size count image book h =
     now = record { image = image; model = book }
 
     mounts : rules.Mounts size count image book
-    mounts = safe-mounts size count now (safe h)
+    mounts = safe-mounts size count now safe
 
--- each call is answered, so a list can go on with it
+pub demand3 : Demand3
+unfolding Demand3
+demand3 size count calls fresh image book typed begun ran = holds (list-safe typed ran (fresh-safe begun))
+
+-- ---- the lists that there are
+
+module _ (size count : ℕ) where
+  -- each call is answered, and in one way
+  call-answered : (call : Call) (before : List ℕ) → (after : List ℕ) × (r : Outcome) × Runs size count call before after r
+  call-answered (rules.mount a) before = let (after, r, x) = demand1 .mounts size count .answered before a in (after, r, mounted x)
+  call-answered (rules.write id value a) before = let (after, r, x) = demand1 .writes size count id value .answered before a in (after, r, written x)
+  call-answered (rules.delete id a) before = let (after, r, x) = demand1 .deletes size count id .answered before a in (after, r, deleted x)
+
+  call-alike : {call : Call} {before after after′ : List ℕ} {r r′ : Outcome} → Runs size count call before after r → Runs size count call before after′ r′ → (r ≡ r′) × (after ≡ after′)
+  call-alike (mounted x) (mounted y) = demand1 .mounts size count .alike x y
+  call-alike (written {id} {value} x) (written y) = demand1 .writes size count id value .alike x y
+  call-alike (deleted {id} x) (deleted y) = demand1 .deletes size count id .alike x y
+
+  runs : (calls : List Call) (before : List ℕ) (book : Model) → (after : List ℕ) × (bookAfter : Model) × Ran size count calls before book after bookAfter
+  runs [] before book = (before, book, ended)
+  runs (call ∷ rest) before book =
+      let (between, r, x) = call-answered call before in
+      let (after, bookAfter, ran) = runs rest between (modelAfter call (told r .number) book) in
+      (after, bookAfter, called x ran)
+
+  list-alike : {calls : List Call} {before : List ℕ} {book : Model} {after after′ : List ℕ} {bookAfter bookAfter′ : Model}
+      → Ran size count calls before book after bookAfter → Ran size count calls before book after′ bookAfter′ → (after ≡ after′) × (bookAfter ≡ bookAfter′)
+  list-alike ended ended = (refl, refl)
+  list-alike {book = book} {after = after} {bookAfter = bookAfter} (called {call = call} {rest = rest} x ran) (called y ran′) =
+      let (same, left) = call-alike x y in
+      list-alike (subst₂ (λ (l : List ℕ) (r : Outcome). Ran size count rest l (modelAfter call (told r .number) book) after bookAfter) left same ran) ran′
+
 pub histories : (size count : ℕ) → Histories size count
-unfolding rule.answerNumbers
-histories size count =
-    record {
-      begins = λ bytes typed legal.
-          let (image, r, x) = demand1 .formats size count .answered bytes plenty in
-          (image, formatted typed x (same-number (x .meets) ∙ ap (λ (y : rule.Answer). rule.answerNumbers y .number) (fresh-made size count bytes legal)));
-      goesOn = λ h call typed. goes-on h call typed;
-    }
-  where
-    goes-on : {before : List ℕ} {book : Model} → Reachable size count before book → (call : Call) → Typed call
-        → (after : List ℕ) × (number : ℕ) × Reachable size count after (modelAfter call number book)
-    goes-on {before} h (rules.mount a) (rules.mounts small) = let (after, r, x) = demand1 .mounts size count .answered before a in (after, told r .number, mounted small h x)
-    goes-on {before} h (rules.write id value a) (rules.writes named typed small) =
-        let (after, r, x) = demand1 .writes size count id value .answered before a in (after, told r .number, written named typed small h x)
-    goes-on {before} h (rules.delete id a) (rules.deletes named small) = let (after, r, x) = demand1 .deletes size count id .answered before a in (after, told r .number, deleted named small h x)
+histories size count = record { begins = λ bytes legal. completes (λ a after r x. x .meets .numbers) (format-succeeds size count bytes legal); runs = runs size count; alike = λ x y. list-alike size count x y }

@@ -1,7 +1,6 @@
 -- The proofs of the demands, from the calls' contracts and the laws of `rules`.
 pub mod Numbers
 pub mod Steps
-pub mod Mounting
 pub mod Demand1
 pub mod Demand2
 pub mod Demand3

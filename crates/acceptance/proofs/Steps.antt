@@ -3,13 +3,12 @@ use mathlib.Core.Path.{_≡_, sym, ap, subst₂, _∙_}
 use mathlib.Core.List.{List}
 use mathlib.Core.Option.{Option, some}
 use Prim.Native.Nat.{ℕ}
-use native.Mathlib.Omega.{arith}
 use Rattle.rules.specs.Meaning.{atRest, stateOf}
 use Rattle.rules.specs.Stores.{moved}
 use Rattle.rules.specs.Calls as rule
 use Rattle.rules.specs.Calls.{Due, Numbers, answerNumbers}
 use Rattle.rules.specs.Demands as rules
-use Rattle.rules.specs.Demands.{Call, Typed, IsBudget, AreBytes, Model, due, budget, step, modelAfter, views, ReadsAs, TurnsShow}
+use Rattle.rules.specs.Demands.{Call, Typed, AreBytes, Model, due, budget, step, modelAfter, views, ReadsAs, TurnsShow}
 use Rattle.rules.proofs.Crash.TurnsShow.{turns-show}
 use Rattle.rules.proofs.Crash.Safe.{Safe, safe-call}
 use Rattle.answer.specs.declared.Outcome.{Outcome}
@@ -17,11 +16,6 @@ use Rattle.answer.specs.declared.Reply.{Reply}
 use Rattle.answer.specs.Answer.{Leaves, replyNumbersOf}
 use Rattle.acceptance.specs.Runs.{Reads}
 use Rattle.acceptance.specs.Demands.{told, Completes}
-
--- the stores due of a call do not depend on its allowance, so that any will do
-pub none-allowed : IsBudget 0
-unfolding IsBudget
-none-allowed = omega arith
 
 -- the number that a run gave is the rules'
 pub same-number : {size : ℕ} {what : Due} {a : ℕ} {before after : List ℕ} {r : Outcome} → Leaves size what a before after r → told r .number ≡ answerNumbers (rule.answer what a) .number

@@ -2,11 +2,12 @@
 -- parameter's type: bytes below 256, IDs and allowances below 2^32.
 use mathlib.Core.Path.{_≡_}
 use mathlib.Core.Bool.{true}
-use mathlib.Core.List.{List}
+use mathlib.Core.List.{List, [], _∷_}
 use mathlib.Core.Logic.{_↔_}
 use mathlib.Core.Option.{Option, none, some}
 use Prim.Native.Nat.{ℕ, _-_, _/_, _<_, _≤_}
 use lib.ListN.{length, take}
+use Rattle.rules.specs.Notation.{Each}
 use Rattle.rules.specs.Ground.{blockSize, legalSizes}
 use Rattle.rules.specs.Look as look
 use Rattle.rules.specs.Look.{needOf}
@@ -15,7 +16,7 @@ use Rattle.rules.specs.Stores.{Store, applyBytes, moved}
 use Rattle.rules.specs.Calls as rule
 use Rattle.rules.specs.Calls.{Due, make, Numbers, answerNumbers, replyNumbers}
 use Rattle.rules.specs.Demands as rules
-use Rattle.rules.specs.Demands.{Call, Typed, IsId, IsBudget, AreBytes, IsUser, Model, emptyModel, modelAfter, views, Matches, ReadsAs, gives, IsWritable, IsFull, IsStore, FewDiffer}
+use Rattle.rules.specs.Demands.{Call, Typed, IsId, IsBudget, AreBytes, IsUser, Model, emptyModel, modelAfter, views, Matches, ReadsAs, gives, IsWritable, IsFull, IsStore, MountedFrom, FewDiffer}
 use Rattle.log.specs.declared.Last.the-variants as last
 use Rattle.log.specs.Budget.{lastOf}
 use Rattle.answer.specs.declared.Outcome.{Outcome}
@@ -114,9 +115,10 @@ pub record OneMeaning (size count : ℕ) (image : List ℕ) : Type 0 where
   -- 2 no store: "none of the three states"
   pub noStore : {a : ℕ} {after : List ℕ} {r : Outcome}
       → Mounts size count image a after r → (told r .number ≡ 2) ↔ (stateOf (views size count image) ≡ none)
-  -- a mount that is done leaves an image at rest
-  pub rests : {a : ℕ} {after : List ℕ} {r : Outcome}
-      → Mounts size count image a after r → told r .number ≡ 0 → (w : ℕ) × (stateOf (views size count after) ≡ some (atRest w))
+  -- A mount that answers 0 leaves an image at rest: the state says which sector works then, how many turns that took, and
+  -- what each ID tells.
+  pub rests : {state : State} {a : ℕ} {after : List ℕ} {r : Outcome}
+      → stateOf (views size count image) ≡ some state → Mounts size count image a after r → told r .number ≡ 0 → MountedFrom size count state image (told r) after
   -- "The newest entry of an ID tells"
   pub newest : {w id : ℕ} {buffer after : List ℕ} {reply : Reply}
       → stateOf (views size count image) ≡ some (atRest w) → IsUser id → Reads size count image id buffer after reply
@@ -145,27 +147,28 @@ pub record Demand2 : Type 0 where
   pub mountTurns : (size count : ℕ) → ShowsTurns size count (Mounts size count)
   pub writeTurns : (size count id : ℕ) (value : List ℕ) → IsId id → AreBytes value → ShowsTurns size count (Writes size count id value)
   pub deleteTurns : (size count id : ℕ) → IsId id → ShowsTurns size count (Deletes size count id)
-  -- "a mount gives 1 when it began mid-turn, else 0"
-  pub mountTells : {size count : ℕ} {before : List ℕ} {state : State} {a : ℕ} {after : List ℕ} {r : Outcome}
-      → stateOf (views size count before) ≡ some state → Mounts size count before a after r → told r .number ≡ 0 → told r .turns ≡ rule.mountTurns state
 
 -- ---- Demand 3: "The plain book".
 
--- "It starts after a format that gave 0, on whatever bytes"; "its list holds mounts, writes and deletes with any ID, value
--- and allowance, at the format's sizes". The image and the book after the list: the book is "fed each call's arguments and
--- its answer number, and nothing of the image".
-pub data Reachable (size count : ℕ) : (image : List ℕ) → (book : Model) → Type 0 where
+-- "It starts after a format that gave 0, on whatever bytes."
+pub data Fresh (size count : ℕ) : (image : List ℕ) → Type 0 where
   formatted : {bytes : List ℕ} {a : ℕ} {image : List ℕ} {r : Outcome} → AreBytes bytes
-      → Formats size count bytes a image r → told r .number ≡ 0 → Reachable size count image emptyModel
-  mounted : {before : List ℕ} {book : Model} {a : ℕ} {after : List ℕ} {r : Outcome}
-      → IsBudget a → Reachable size count before book
-      → Mounts size count before a after r → Reachable size count after (modelAfter (rules.mount a) (told r .number) book)
-  written : {before : List ℕ} {book : Model} {id : ℕ} {value : List ℕ} {a : ℕ} {after : List ℕ} {r : Outcome}
-      → IsId id → AreBytes value → IsBudget a → Reachable size count before book
-      → Writes size count id value before a after r → Reachable size count after (modelAfter (rules.write id value a) (told r .number) book)
-  deleted : {before : List ℕ} {book : Model} {id a : ℕ} {after : List ℕ} {r : Outcome}
-      → IsId id → IsBudget a → Reachable size count before book
-      → Deletes size count id before a after r → Reachable size count after (modelAfter (rules.delete id a) (told r .number) book)
+      → Formats size count bytes a image r → told r .number ≡ 0 → Fresh size count image
+
+-- "Its list holds mounts, writes and deletes with any ID, value and allowance, at the format's sizes": a run of one of them
+pub data Runs (size count : ℕ) : Call → (before after : List ℕ) → Outcome → Type 0 where
+  mounted : {a : ℕ} {before after : List ℕ} {r : Outcome} → Mounts size count before a after r → Runs size count (rules.mount a) before after r
+  written : {id : ℕ} {value : List ℕ} {a : ℕ} {before after : List ℕ} {r : Outcome}
+      → Writes size count id value before a after r → Runs size count (rules.write id value a) before after r
+  deleted : {id a : ℕ} {before after : List ℕ} {r : Outcome} → Deletes size count id before a after r → Runs size count (rules.delete id a) before after r
+
+-- A list of calls, run one after the other: from an image and a book to the image and the book after it. "The book is fed
+-- each call's arguments and its answer number, and nothing of the image."
+pub data Ran (size count : ℕ) : List Call → (before : List ℕ) (book : Model) (after : List ℕ) (bookAfter : Model) → Type 0 where
+  ended : {image : List ℕ} {book : Model} → Ran size count [] image book image book
+  called : {call : Call} {rest : List Call} {before between after : List ℕ} {book bookAfter : Model} {r : Outcome}
+      → Runs size count call before between r → Ran size count rest between (modelAfter call (told r .number) book) after bookAfter
+      → Ran size count (call ∷ rest) before book after bookAfter
 
 -- A call that is not refused, whatever the allowance: 0 and at most so many turns, "or 11 if cut". Some allowance is enough.
 pub record Completes (run : (allowance : ℕ) (after : List ℕ) (r : Outcome) → Type 0) (most : ℕ) : Type 0 where
@@ -205,14 +208,18 @@ pub record Holds (size count : ℕ) (image : List ℕ) (book : Model) : Type 0 w
 
 -- "It is a single claim about the list, not one for each call."
 unfoldable pub Demand3 : Type 0
-Demand3 = (size count : ℕ) (image : List ℕ) (book : Model) → Reachable size count image book → Holds size count image book
+Demand3 =
+    (size count : ℕ) (calls : List Call) (fresh image : List ℕ) (book : Model)
+    → Each Typed calls → Fresh size count fresh → Ran size count calls fresh emptyModel image book → Holds size count image book
 
--- There are such lists: bytes of legal sizes can be formatted, and each list can go on with any call.
+-- None of this is empty: bytes of legal sizes can be formatted, and every list of calls has a run from any image, and only
+-- one.
 pub record Histories (size count : ℕ) : Type 0 where
-  pub begins : (bytes : List ℕ) → AreBytes bytes → legalSizes size count (length bytes) ≡ true
-      → (image : List ℕ) × Reachable size count image emptyModel
-  pub goesOn : {before : List ℕ} {book : Model} → Reachable size count before book → (call : Call) → Typed call
-      → (after : List ℕ) × (number : ℕ) × Reachable size count after (modelAfter call number book)
+  pub begins : (bytes : List ℕ) → legalSizes size count (length bytes) ≡ true → Completes (Formats size count bytes) 0
+  pub runs : (calls : List Call) (before : List ℕ) (book : Model) → (after : List ℕ) × (bookAfter : Model) × Ran size count calls before book after bookAfter
+  pub alike : {calls : List Call} {before : List ℕ} {book : Model} {after after′ : List ℕ} {bookAfter bookAfter′ : Model}
+      → Ran size count calls before book after bookAfter → Ran size count calls before book after′ bookAfter′
+      → (after ≡ after′) × (bookAfter ≡ bookAfter′)
 
 -- All that is promised.
 pub record Accepted : Type 0 where

@@ -25,7 +25,7 @@ use Rattle.rules.proofs.Format.Ground.{length-pieces, getD-pieces, sector-of-im
 use Rattle.rules.proofs.Blocks.Lying.{LiesAt, LiesLong, lies-at}
 use Rattle.rules.proofs.Blocks.Data.{data-elsewhere}
 use Rattle.rules.proofs.Blocks.Stored.{copied-small, copied-long, value-head, small-fits, long-fits}
-use Rattle.rules.proofs.Bench.LongestValue.{need-blocks}
+use Rattle.rules.proofs.Format.Look.{need-blocks}
 use Rattle.rules.proofs.Blocks.OnImage.{view-at, proper-view, apply-other}
 use Rattle.rules.proofs.Blocks.OnBytes.{image-of-bytes, Lies}
 use Rattle.rules.proofs.Blocks.Formatted.{length-image}

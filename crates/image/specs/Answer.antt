@@ -57,21 +57,23 @@ marked belongs s flags = if belongs then set flags s true else flags
 abbrev pub viewsIn : Geometry → List ℕ → List View
 viewsIn g bytes = viewsOf (blocksOf g) (imageOf (blocksOf g) (sectorsOf g) bytes)
 
--- the summaries are those of the views, each at its sector's number
+-- The summaries are those of the views, each at its sector's number. Free: the places behind the last sector.
 pub record Summarizes (views : List View) (sectors : List Summary) : Type 0 where
   pub each : (s : ℕ) → s < length views → getD sectors s noSummary ≡ summaryAs (viewAt views s)
 
--- the same with their outlines
+-- The same with their outlines. Free: the places behind the last sector.
 pub record Outlines (views : List View) (sectors : List Summary) : Type 0 where
   pub each : (s : ℕ) → s < length views → getD sectors s noSummary ≡ outlineAs (viewAt views s)
 
--- the status is that of any sectors with these outlines, where these of them are working and unfinished
+-- The status is that of any sectors with these outlines, where these of them are working and unfinished. Free: the status where
+-- no views of this many sectors have these outlines, the one unfinished sector being open.
 pub record Decides (g : Geometry) (sectors : List Summary) (working unfinished : List ℕ) (r : Status) : Type 0 where
   pub status : (views : List View) → length views ≡ sectorsOf g → Outlines views sectors
       → ((u : ℕ) → unfinished ≡ u ∷ [] → viewAt views u .closed ≡ false)
       → r ≡ statusAs (stateBy views working unfinished)
 
--- The survey of an image: its state; and the outlines of its sectors, if all leads are right.
+-- The survey of an image: its state; and the outlines of its sectors, if all leads are right. Free: every outline where a lead is
+-- wrong.
 pub record Surveys (g : Geometry) (bytes : List ℕ) (r : Survey) : Type 0 where
   pub status : r .status ≡ statusAs (stateOf (viewsIn g bytes))
   pub sectors : all (λ (v : View). v .led) (viewsIn g bytes) ≡ true → Outlines (viewsIn g bytes) (r .sectors)

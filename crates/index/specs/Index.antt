@@ -28,7 +28,7 @@ unfoldable pub linkTo : Option ℕ → ℕ
 linkTo none = 0
 linkTo (some n) = suc n
 
--- The tables of the first `count` entries.
+-- The tables of the first `count` entries. Free: the links of the places from `count` on.
 pub record Indexes (entries : List Entry) (count : ℕ) (heads links : List ℕ) : Type 0 where
   pub few : count ≤ length entries
   pub buckets : length heads ≡ bucketCount

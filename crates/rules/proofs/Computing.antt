@@ -8,7 +8,7 @@ use Rattle.rules.specs.Look.{isChecked, isLead, isClose, dataBlocks, dat
 use Rattle.rules.specs.Reading.{isLong, entryAt, entriesBelow, entriesOf, afterAll, endBlock, viewOf, View}
 use Rattle.rules.specs.Meaning.{viewsOf, hasDone, isWorking, isUnfinished, next, noView, viewAt, stateBy, stateOf, allBut, endingAt, counting, entriesIn, history, isNamed, isValue, changesOf, newestValue, lookup, lengthIn, valueOf, isSound, isRenewed, liveAmong, liveEach, needsOf, atRest, notReopened, midTurn}
 use Rattle.rules.specs.Stores.{apply, nothing, _andThen_, idIn, entryBlock, kindOf, dataStores, blankStore, blankIf, append, appendAll, nextCycle, reopen, closeSector, doneEntry, survivors, finishTurn, turn, turns, moved, mount, firstFit, leastTurns, change, valueEntry, deletionEntry, finalStore, finalBlocks, finalSectors, format, applyBytes, Kind, lead, close, done, value, blank, Store}
-use Rattle.rules.specs.Calls.{answer, made, inState, inRest, mountTurns, mountOn, changeOn, writeOn, deleteOn, readEntry, readOn, formatOn, atSizes, formatDue, mountDue, writeDue, deleteDue, read, bufferAfter, refusalNumber, lengthTold, answerNumbers, replyNumbers, leaves, Refusal, noRoom, Due, refuse, make, found}
+use Rattle.rules.specs.Calls.{answer, made, inState, inRest, mountTurns, mountOn, changeOn, writeOn, deleteOn, readEntry, readOn, formatOn, atSizes, formatDue, mountDue, writeDue, deleteDue, read, bufferAfter, refusalNumber, lengthTold, answerNumbers, replyNumbers, leaves, Refusal, reserved, empty, tooLong, noRoom, Due, refuse, make, Reply, found}
 use Rattle.rules.specs.Demands.{budget, due, emptyModel, assign, modelAfter, step, run, views}
 use mathlib.Core.List.{List, [], _∷_, _++_, map}
 use mathlib.Core.Option.{none}
@@ -99,7 +99,7 @@ mount-mid-turn = refl
 
 -- ---- blocks that would read
 
--- "if the next block down would read as an entry after this one, blank it; then the entry"
+-- "if the next block down would read as an entry after this one, blank it (look-ahead); then the entry"
 look-ahead : lines (append 8 0 (valueEntry 7 (eight 1)) (atRestWith blankBlock (of 9 5) blankBlock)) ≡ line 0 3 blank ∷ line 0 4 value ∷ []
 unfolding computing lines atRestWith spare sector of eight
 look-ahead = refl
@@ -118,6 +118,31 @@ reopening = refl
 wrapped : nextCycle 255 ≡ 0
 unfolding computing
 wrapped = refl
+
+-- ---- the order of the checks, on any image: no store, a store that is not at rest, or one at rest
+
+-- 4 before 2 and 3, and before 5 and 6
+reserved-first : (im : Image) (bytes : List ℕ) → writeOn 8 2 im reservedId bytes ≡ refuse reserved
+unfolding computing
+reserved-first im bytes = refl
+
+reserved-delete : (im : Image) → deleteOn 8 2 im reservedId ≡ refuse reserved
+unfolding computing
+reserved-delete im = refl
+
+reserved-read : (im : Image) (bufferLength : ℕ) → readOn 8 2 im reservedId bufferLength ≡ Reply.refused reserved
+unfolding computing
+reserved-read im bufferLength = refl
+
+-- 5 before 2 and 3
+empty-first : (im : Image) → writeOn 8 2 im 7 [] ≡ refuse empty
+unfolding computing
+empty-first im = refl
+
+-- 6 before 2 and 3: 33 bytes in a sector of 128
+too-long-first : (im : Image) (byte : ℕ) → writeOn 8 2 im 7 (replicate 33 byte) ≡ refuse tooLong
+unfolding computing
+too-long-first im byte = refl
 
 -- ---- what is told
 

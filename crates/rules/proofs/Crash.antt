@@ -18,5 +18,5 @@ pub mod Demand3
 pub mod Safe
 pub mod ReadBack
 pub mod TurnsShow
+pub mod MountShows
 pub mod Pinned
-pub mod Applied

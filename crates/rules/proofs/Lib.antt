@@ -7,4 +7,3 @@ pub mod Blocks
 pub mod Ring
 pub mod Due
 pub mod Crash
-pub mod Bench

@@ -11,7 +11,7 @@ use Rattle.rules.specs.Notation.{if_then_else_, Each}
 use Rattle.rules.specs.Ground.{imageOf, blockSize, reservedId, keptFromValues}
 use Rattle.rules.specs.Look.{value, needOf}
 use Rattle.rules.specs.Reading.{Entry, View}
-use Rattle.rules.specs.Meaning.{State, atRest, viewsOf, viewAt, stateOf, next, history, lookup, valueOf, isSound, liveIn, needsOf}
+use Rattle.rules.specs.Meaning.{State, atRest, notReopened, midTurn, viewsOf, viewAt, stateOf, next, history, lookup, valueOf, isSound, liveIn, needsOf}
 use Rattle.rules.specs.Stores.{moved}
 use Rattle.rules.specs.Calls.{Due, answer, Numbers, answerNumbers, replyNumbers, bufferAfter, formatDue, mountDue, writeDue, deleteDue, read, leaves}
 
@@ -27,6 +27,10 @@ IsId id = id < 2 ^ 32
 
 unfoldable pub IsBudget : ℕ → Type 0
 IsBudget a = a < 2 ^ 32
+
+-- the largest budget
+abbrev pub plenty : ℕ
+plenty = 4294967295
 
 unfoldable pub AreBytes : List ℕ → Type 0
 AreBytes bytes = Each (λ b. b < 256) bytes
@@ -197,6 +201,28 @@ TurnsShow =
     → answerNumbers (answer (due size count image call) (budget call)) .number ≡ 0
     → stateOf (views size count (leaves size (due size count image call) (budget call) image))
     ≡ some (atRest (moved count (answerNumbers (answer (due size count image call) (budget call)) .turns) w))
+
+-- What a mount that answered 0 tells and leaves, of any image of the three states, reachable or not: its turns, the sector
+-- that works then, and that each ID tells what these entries told.
+pub record IsMounted (size count : ℕ) (told : Numbers) (after : List ℕ) (turnsMade w : ℕ) (kept : List Entry) : Type 0 where
+  pub turns : told .turns ≡ turnsMade
+  pub rests : stateOf (views size count after) ≡ some (atRest w)
+  pub keeps : (id : ℕ) → lookup id (history (atRest w) (views size count after)) ≡ lookup id kept
+
+-- "rest, nothing. Done, not reopened: reopen the working sector's successor": then each ID tells what all sectors but that
+-- one told, and their entries are what the history at rest has (that of the state itself counts the successor too). "Mid-turn:
+-- reopen the unfinished sector, then the turn"; "a mount gives 1 when it began mid-turn, else 0".
+unfoldable pub MountedFrom : (size count : ℕ) → State → (before : List ℕ) → Numbers → (after : List ℕ) → Type 0
+MountedFrom size count (atRest w) before told after = IsMounted size count told after 0 w (history (atRest w) (views size count before))
+MountedFrom size count (notReopened w) before told after = IsMounted size count told after 0 w (history (atRest w) (views size count before))
+MountedFrom size count (midTurn u) before told after = IsMounted size count told after 1 u (history (midTurn u) (views size count before))
+
+unfoldable pub MountShows : Type 0
+MountShows =
+    (size count : ℕ) (image : List ℕ) (a : ℕ) (state : State)
+    → AreBytes image → stateOf (views size count image) ≡ some state
+    → answerNumbers (answer (mountDue size count image) a) .number ≡ 0
+    → MountedFrom size count state image (answerNumbers (answer (mountDue size count image) a)) (leaves size (mountDue size count image) a image)
 
 -- "at most one block may differ" on an allowance of 1: outside so many blocks, counted from the start of the image, every
 -- byte stands.

@@ -9,4 +9,3 @@ pub mod Meaning
 pub mod Stores
 pub mod Calls
 pub mod Demands
-pub mod BenchSheet

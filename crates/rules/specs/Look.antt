@@ -50,7 +50,7 @@ dataOf done = 0
 dataOf (deletion id) = 0
 dataOf (value id len) = dataBlocks len
 
--- "Need of a value is 1 plus its data blocks; of a deletion 1. Done costs nothing in this sum."
+-- "Need of a value is 1 plus its data blocks; of a deletion 1. [..] Done costs nothing in this sum."
 unfoldable pub needOf : Head → ℕ
 needOf done = 0
 needOf (deletion id) = 1

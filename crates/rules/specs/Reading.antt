@@ -9,7 +9,7 @@ use Rattle.rules.specs.Ground.{Block, Sector}
 use Rattle.rules.specs.Entry.{cycleOf, bodyOf}
 use Rattle.rules.specs.Look.{Head, done, deletion, value, Scan, start, after, dataOf, isLead, isClose, Verdict, entry, blank, otherCycle, wrongCheck, wrongForm, overLimit, look}
 
--- "a value of 1 to 8 bytes; or data offset and CRC-32 of the value"
+-- "value of 1 to 8 bytes, then FF; or data offset (4) and CRC-32 of the value (4)"
 unfoldable pub isLong : Head → Bool
 isLong done = false
 isLong (deletion id) = false

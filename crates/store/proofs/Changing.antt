@@ -14,7 +14,7 @@ use Rattle.rules.specs.Meaning.{stateOf}
 use Rattle.rules.specs.Calls as rule
 use Rattle.rules.specs.Calls.{refuse, writeOn, deleteOn}
 use Rattle.rules.proofs.Basics.Notation.{by-test}
-use Rattle.rules.proofs.Bench.LongestValue.{need-blocks}
+use Rattle.rules.proofs.Format.Look.{need-blocks}
 use Rattle.layout.specs.declared.Geometry.{Geometry}
 use Rattle.layout.specs.declared.Sizes.the-variants.{Legal, Illegal}
 use Rattle.layout.specs.Geometry.{blocksOf, sectorsOf, sizesOf}

@@ -23,6 +23,7 @@ abbrev pub withReopening : Summary → Summary
 withReopening summary = record { cycle = nextCycle (summary .cycle); closed = false; entries = 0; scan = scanAs start }
 
 -- A step that is due these stores did those that the budget allows; made whole, the summaries are those of the sectors after it.
+-- Free: every summary of a step that was cut.
 pub record Went (g : Geometry) (before : List ℕ) (stores : List Store) (budget : Budget) (after : List ℕ) (r : Turned) : Type 0 where
   pub did : Did g before stores budget after (r .budget)
   pub sectors : r .budget .cut ≡ false → Summarizes (viewsIn g after) (r .sectors)

@@ -58,13 +58,13 @@ module _ (B s : ℕ) (enough : 8 ≤ B) where
   unfolding finalStore
   at-lead = final-at B s 0 B (B - 1) (omega arith) ∙ simp (eq-eqb (0 + (B - 1)) (B - 1) (omega arith), if-true)
 
-  at-close : 2 ≤ s → getD (finalBytes B s 0 B) (B - 2) [] ≡ closeBlock 1
+  pub at-close : 2 ≤ s → getD (finalBytes B s 0 B) (B - 2) [] ≡ closeBlock 1
   unfolding finalStore
   at-close h =
       final-at B s 0 B (B - 2) (omega arith)
       ∙ simp (ne-eqb (0 + (B - 2)) (B - 1) (omega arith), eq-eqb (0 + (B - 2)) (B - 2) (omega arith), le-leb 2 s h, if-true, if-false)
 
-  at-done : s ≡ 0 → getD (finalBytes B s 0 B) (B - 3) [] ≡ doneBlock 1
+  pub at-done : s ≡ 0 → getD (finalBytes B s 0 B) (B - 3) [] ≡ doneBlock 1
   unfolding finalStore
   at-done h =
       final-at B s 0 B (B - 3) (omega arith)

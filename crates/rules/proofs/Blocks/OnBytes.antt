@@ -1,17 +1,14 @@
--- Calls on bytes are calls on blocks: what a list of stores leaves, and what a list of calls answers and leaves.
-use mathlib.Core.Path.{_≡_, refl, sym, ap, ap₂, subst, _∙_}
-use mathlib.Core.Bool.{Bool, true, false, _&&_}
-use mathlib.Core.List.{List, [], _∷_, _++_, map}
+-- Calls on bytes are calls on blocks: what a list of stores leaves, and what a call is due and leaves.
+use mathlib.Core.Path.{_≡_, refl, ap, _∙_}
+use mathlib.Core.Bool.{Bool, true, false}
+use mathlib.Core.List.{List, [], _∷_, _++_}
 use Prim.Native.Nat.{ℕ, _*_, _/_, _<_, zero, suc, _+_}
-use lib.Dec.{ltb, eqb}
 use lib.ListN.{length, take, drop, length-drop, length-map}
-use borrow.Author.Tests.{ltb-true, eqb-true}
 use Rattle.rules.specs.Notation.{all, Each, empty, each, pieces}
 use Rattle.rules.specs.Ground.{Image, blockSize, legalSizes, imageOf, storeBytes, sectorOf}
 use Rattle.rules.specs.Stores.{Store, apply, applyBytes}
-use Rattle.rules.specs.Calls.{Due, refuse, Refusal, geometry, Answer, answer, made, atSizes, mountOn, writeOn, deleteOn, mountDue, writeDue, deleteDue, leaves}
-use Rattle.rules.specs.Demands.{Call, mount, write, delete, due, budget, Run, step, run}
-use Rattle.rules.specs.BenchSheet.{answers}
+use Rattle.rules.specs.Calls.{Due, refuse, Refusal, geometry, made, atSizes, mountOn, writeOn, deleteOn, mountDue, writeDue, deleteDue, leaves}
+use Rattle.rules.specs.Demands.{Call, mount, write, delete, due}
 use Rattle.rules.proofs.Terms.{IsInside, IsSector, IsImage}
 use Rattle.rules.proofs.Basics.Notation.{both-true, if-true, if-false}
 use Rattle.rules.proofs.Format.Ground.{store-block, length-store-bytes, legal-bounds, length-pieces}
@@ -81,23 +78,12 @@ pub inside-lie : {B S : ℕ} {ss : List Store} → Each (IsInside B S) ss → Ea
 inside-lie empty = empty
 inside-lie (each i is) = each (record { sector = i .sector; block = i .block; sized = i .bytes .sized }) (inside-lie is)
 
--- a test that a store lies so
-unfoldable pub isInside : (B S : ℕ) → Store → Bool
-isInside B S s = ltb (s .sector) S && ltb (s .block) B && eqb (length (s .bytes)) blockSize
-
 pub each-true {ℓ κ} : {A : Type ℓ} {P : A → Type κ} (test : A → Bool) → ((x : A) → test x ≡ true → P x) → (xs : List A) → all test xs ≡ true → Each P xs
 unfolding all
 each-true test holds [] e = empty
 each-true test holds (x ∷ xs) e =
     let (here, rest) = both-true (test x) (all test xs) e in
     each (holds x here) (each-true test holds xs rest)
-
-is-inside : (B S : ℕ) (s : Store) → isInside B S s ≡ true → Lies B S s
-unfolding isInside
-is-inside B S s e =
-    let (places, sized) = both-true _ (eqb (length (s .bytes)) blockSize) e in
-    let (sector, block) = both-true (ltb (s .sector) S) (ltb (s .block) B) places in
-    record { sector = ltb-true _ _ sector; block = ltb-true _ _ block; sized = eqb-true _ _ sized }
 
 -- ---- a call
 
@@ -141,57 +127,3 @@ module _ (size count : ℕ) {image : List ℕ} {im : Image} (c : HasBlocks size 
         legal = ap (legalSizes size count) (length-stored B (made what a) image) ∙ c .legal;
         blocks = stored B count (made what a) image inside (bounds .exact) ∙ ap (apply (made what a)) (c .blocks);
       }
-
--- ---- calls one after the other
-
--- the blocks that calls leave
-unfoldable pub leftOn : (B S : ℕ) → Image → List Call → Image
-leftOn B S im [] = im
-leftOn B S im (call ∷ rest) = leftOn B S (apply (made (dueOn B S im call) (budget call)) im) rest
-
--- what each call of a run on blocks answers, and whether its stores lie within the image
-pub record Step : Type 0 where
-  pub says : Answer
-  pub inside : Bool
-
-unfoldable pub runOn : (B S : ℕ) → Image → List Call → List Step
-runOn B S im [] = []
-runOn B S im (call ∷ rest) =
-    let what : Due = dueOn B S im call in
-    let stores : List Store = made what (budget call) in
-    record { says = answer what (budget call); inside = all (isInside B S) stores } ∷ runOn B S (apply stores im) rest
-
--- A run on blocks whose stores lie within the image is the run on the bytes.
-module _ (size count : ℕ) where
-  -- what one call leaves
-  call-leaves : {image : List ℕ} {im : Image} → HasBlocks size count image im → (call : Call)
-      → all (isInside (size / blockSize) count) (made (dueOn (size / blockSize) count im call) (budget call)) ≡ true
-      → HasBlocks size count (leaves size (due size count image call) (budget call) image) (apply (made (dueOn (size / blockSize) count im call) (budget call)) im)
-  call-leaves {image} {im} c call e =
-      let B : ℕ = size / blockSize in
-      let what : Due = dueOn B count im call in
-      subst (λ (d : Due). HasBlocks size count (leaves size d (budget call) image) (apply (made what (budget call)) im))
-      (sym (due-on size count c call))
-      (leaves-on size count c what (budget call) (each-true (isInside B count) (is-inside B count) (made what (budget call)) e))
-
-  -- what the calls leave, whatever the book
-  pub run-leaves : {im : Image} (state : Run) → HasBlocks size count (state .image) im → (calls : List Call)
-      → all (λ (s : Step). s .inside) (runOn (size / blockSize) count im calls) ≡ true
-      → HasBlocks size count (run size count state calls .image) (leftOn (size / blockSize) count im calls)
-  unfolding run step runOn leftOn all
-  run-leaves state c [] e = c
-  run-leaves state c (call ∷ rest) e =
-      let (here, later) = both-true _ _ e in
-      run-leaves (step size count state call) (call-leaves c call here) rest later
-
-  -- and what they answer
-  pub run-answers : {image : List ℕ} {im : Image} → HasBlocks size count image im → (calls : List Call)
-      → all (λ (s : Step). s .inside) (runOn (size / blockSize) count im calls) ≡ true
-      → answers size count image calls ≡ map (λ (s : Step). s .says) (runOn (size / blockSize) count im calls)
-  unfolding answers runOn all
-  run-answers c [] e = refl
-  run-answers {image} {im} c (call ∷ rest) e =
-      let (here, later) = both-true _ _ e in
-      let says : answer (due size count image call) (budget call) ≡ answer (dueOn (size / blockSize) count im call) (budget call) =
-      ap (λ (d : Due). answer d (budget call)) (due-on size count c call) in
-      ap₂ (λ (a : Answer) (l : List Answer). a ∷ l) says (run-answers (call-leaves c call here) rest later)

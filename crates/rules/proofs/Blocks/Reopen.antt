@@ -92,7 +92,7 @@ entry-cycle : (B cycle : ℕ) (scan : Scan) (block : Block) → isEntry (look B 
 entry-cycle B cycle scan block is =
     ⊎-elim (λ found. look-entry B cycle scan block (found .1) .rightCycle) (λ none. absurd (false≢true (sym none ∙ is))) (verdict-cases (look B cycle scan block))
 
-other-none : (B cycle : ℕ) (scan : Scan) (block : Block) → (cycleOf block ≡ cycle → ⊥) → isEntry (look B cycle scan block) ≡ false
+pub other-none : (B cycle : ℕ) (scan : Scan) (block : Block) → (cycleOf block ≡ cycle → ⊥) → isEntry (look B cycle scan block) ≡ false
 other-none B cycle scan block other = refuted (isEntry (look B cycle scan block)) (λ is. other (entry-cycle B cycle scan block is))
 
 -- a whole sector that shows so much

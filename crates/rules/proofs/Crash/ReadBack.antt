@@ -52,7 +52,7 @@ module _ (size count : ℕ) (image : List ℕ) (typed : AreBytes image) where
       (left .sizes) (left .whole)
       (subst (λ (T : ℕ → Option Entry). Settled count T (views size count (leaves size (due size count image call) a image))) (is (told size count image typed (l .legal) (l .working) (l .rests))) (left .settles .settled))
 
-none-allowed : IsBudget 0
+pub none-allowed : IsBudget 0
 unfolding IsBudget
 none-allowed = omega arith
 

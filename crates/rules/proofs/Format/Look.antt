@@ -24,6 +24,11 @@ data-blocks-le len = go (leb len 8) refl
     go true e = omega arith
     go false e = omega (arith, leb-false len 8 e)
 
+-- the two cases of their number
+pub need-blocks : (len : ℕ) → (8 < len → dataBlocks len ≡ (len + 15) / blockSize) × (len ≤ 8 → dataBlocks len ≡ 0)
+unfolding dataBlocks
+need-blocks len = (λ h. simp (lt-leb len 8 h, if-false), λ h. simp (le-leb len 8 h, if-true))
+
 -- The kinds of the paper's list, by their fields.
 pub data Kind (dataEnd id len : ℕ) (body : List ℕ) : Head → Type 0 where
   is-done : id ≡ reservedId → len ≡ 0 → isErased body ≡ true → Kind dataEnd id len body done

@@ -7,23 +7,23 @@ use Prim.Native.Nat.{ℕ, zero, suc, _-_, _/_, _<_, _≤_}
 use native.Mathlib.Omega.{arith}
 use lib.ListN.{length, getD, set, length-set}
 use lib.Seq.{getD-set-same}
 use Rattle.rules.specs.Notation.{all, Each, empty, each}
 use Rattle.rules.specs.Ground.{Block, Sector, Image, blockSize, reservedId, legalSizes, imageOf, blockAt, store, blankBlock}
 use Rattle.rules.specs.Entry.{cycleOf, numbers, leadLength, leadMark, leadBlock}
 use Rattle.rules.specs.Look as look
 use Rattle.rules.specs.Look.{isClose, start, isEntry}
 use Rattle.rules.specs.Reading.{viewOf}
 use Rattle.rules.specs.Meaning.{viewsOf, stateOf}
 use Rattle.rules.specs.Stores.{Store, Kind, apply, blankStore, blankIf, reopen, nextCycle, format}
 use Rattle.rules.specs.Calls.{Due, make, refuse, geometry, noStore, Answer, answer, made, inState, leaves, Reply, formatDue, mountDue, writeDue, deleteDue, read, formatOn, mountOn, writeOn, deleteOn, readOn}
-use Rattle.rules.specs.BenchSheet.{ReopensAt0, OffSizes}
+use Rattle.bench_rows.specs.BenchSheet.{ReopensAt0, OffSizes}
 use Rattle.rules.proofs.Basics.Notation.{if-false}
 use Rattle.rules.proofs.Format.Ground.{legal-bounds, size-112, size-136, size-65552, one-sector, sixty-five-sectors}
 use Rattle.rules.proofs.Format.Look.{blank-no-lead}
 use Rattle.rules.proofs.Format.Entry.{cycle-encode}
 use Rattle.rules.proofs.Crash.Cuts.{apply-append}
 use Rattle.rules.proofs.Blocks.OnBytes.{inside-lie, HasBlocks, call-on, call-off, leaves-on}
 use Rattle.rules.proofs.Blocks.Formatted.{length-image, length-sector, format-inside}
 
 -- ---- row 8
 

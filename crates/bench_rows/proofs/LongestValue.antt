@@ -8,26 +8,24 @@ use Prim.Native.Nat.{ℕ, suc, _+_, _*_, _-_, _/_, _<_, _≤_}
 use native.Mathlib.Omega.{arith}
 use lib.Dec.{leb, ltb}
 use lib.ListN.{length, length-append}
-use borrow.Author.Tests.{lt-ltb, le-ltb, ltb-true, ltb-false, ne-eqb, le-leb, lt-leb, leb-true, leb-false}
+use borrow.Author.Tests.{lt-ltb, le-ltb, ltb-true, ltb-false, ne-eqb, le-leb, leb-true, leb-false}
 use Rattle.rules.specs.Notation.{if_then_else_, isEmpty}
 use Rattle.rules.specs.Ground.{Block, Image, blockSize, reservedId, legalSizes, imageOf, keptFromValues}
 use Rattle.rules.specs.Look.{dataBlocks, needOf}
 use Rattle.rules.specs.Reading.{Entry}
 use Rattle.rules.specs.Meaning.{State, atRest, notReopened, midTurn, viewsOf, stateOf}
 use Rattle.rules.specs.Stores.{Store, apply, nothing, _andThen_, dataStores, blankIf, append, turns, moved, firstFit, leastTurns, change, valueEntry}
 use Rattle.rules.specs.Calls.{Due, make, refuse, tooLong, noRoom, refusalNumber, answer, answerNumbers, inRest, changeOn, writeOn, writeDue}
-use Rattle.rules.specs.BenchSheet.{plenty, Longest}
+use Rattle.rules.specs.Demands.{plenty}
+use Rattle.bench_rows.specs.BenchSheet.{Longest}
 use Rattle.rules.proofs.Basics.Notation.{if-true, if-false}
 use Rattle.rules.proofs.Format.Ground.{length-pieces, legal-bounds}
+use Rattle.rules.proofs.Format.Look.{need-blocks}
 use Rattle.rules.proofs.Blocks.OnBytes.{HasBlocks, call-on}
 use Rattle.rules.proofs.Blocks.Formatted.{finalImage}
-use Rattle.rules.proofs.Bench.Fresh.{fresh-blocks, rests, open-needs}
+use Rattle.bench_rows.proofs.Fresh.{fresh-blocks, rests, open-needs}
 
 -- ---- the need of a length
-
-pub need-blocks : (len : ℕ) → (8 < len → dataBlocks len ≡ (len + 15) / blockSize) × (len ≤ 8 → dataBlocks len ≡ 0)
-unfolding dataBlocks
-need-blocks len = (λ h. simp (lt-leb len 8 h, if-false), λ h. simp (le-leb len 8 h, if-true))
 
 module _ (B len : ℕ) (enough : 8 ≤ B) where
   too-long : (B - 6) * blockSize < len → B - keptFromValues < 1 + dataBlocks len
@@ -111,7 +109,7 @@ unfolding blankIf
 two-more k true s b = omega arith
 two-more k false s b = omega arith
 
-length-data-stores : (s b : ℕ) (blocks : List Block) → length (dataStores s b blocks) ≡ length blocks
+pub length-data-stores : (s b : ℕ) (blocks : List Block) → length (dataStores s b blocks) ≡ length blocks
 unfolding dataStores
 length-data-stores s b [] = refl
 length-data-stores s b (x ∷ xs) = ap suc (length-data-stores s (suc b) xs)

@@ -10,20 +10,21 @@ use lib.Dec.{leb}
 use lib.ListN.{length, take}
 use lib.Seq.{take-all}
 use borrow.Author.Tests.{leb-true, le-leb, ne-eqb}
 use Rattle.rules.specs.Notation.{Each}
 use Rattle.rules.specs.Ground.{Image, blockSize, reservedId, legalSizes, imageOf}
 use Rattle.rules.specs.Reading.{View}
 use Rattle.rules.specs.Meaning.{atRest, viewsOf, viewAt, stateOf, history, lookup, needsOf}
 use Rattle.rules.specs.Stores as stores
 use Rattle.rules.specs.Stores.{Store, apply, nothing, format}
-use Rattle.rules.specs.Calls.{Due, make, refuse, geometry, absent, done, Reply, answer, answerNumbers, refusalNumber, made, inState, inRest, mountTurns, formatOn, mountOn, deleteOn, readEntry, readOn, formatDue, mountDue, deleteDue, read, leaves}
-use Rattle.rules.specs.BenchSheet.{plenty, Fresh, formatted, HoldsNothing}
+use Rattle.rules.specs.Calls.{Due, make, refuse, geometry, absent, Answer, done, Reply, answer, answerNumbers, refusalNumber, made, inState, inRest, mountTurns, formatOn, mountOn, deleteOn, readEntry, readOn, formatDue, mountDue, deleteDue, read, leaves}
+use Rattle.rules.specs.Demands.{plenty, views}
+use Rattle.bench_rows.specs.BenchSheet.{Fresh, formatted, HoldsNothing, IsAbsent}
 use Rattle.rules.proofs.Basics.Notation.{if-true, if-false}
 use Rattle.rules.proofs.Format.Ground.{legal-bounds}
 use Rattle.rules.proofs.Computing.{computing}
 use Rattle.rules.proofs.Blocks.OnBytes.{Lies, inside-lie, HasBlocks, call-on, call-off, leaves-on}
 use Rattle.rules.proofs.Blocks.Formatted.{finalImage, format-inside, format-bytes, length-format}
 use Rattle.rules.proofs.Blocks.FormattedViews.{freshViews, fresh-views, fresh-rests, fresh-history, done-matches}
 
 -- an answer 0 says that the sizes are legal, and that all stores were made
 formats : (size count : ℕ) (bytes : List ℕ) (a : ℕ) → answerNumbers (answer (formatDue size count bytes) a) .number ≡ 0
@@ -127,3 +128,12 @@ holds-nothing size count image fresh =
           ap (λ (d : Due). answer d a)
           (call-on size count c refuse (λ B S im. deleteOn B S im id) ∙ deletes-nothing B count (bounds .blocks-from) (bounds .sectors-from) id user);
     }
+
+-- And its delete, of every image at rest.
+pub deletes-absent : (size count : ℕ) (image : List ℕ) (id a : ℕ) → IsAbsent size count image id → answer (deleteDue size count image id) a ≡ Answer.refused absent
+unfolding deleteDue deleteOn inRest answer views
+deletes-absent size count image id a x =
+    let whole : HasBlocks size count image (imageOf (size / blockSize) count image) = record { legal = x .legal; blocks = refl } in
+    let what : deleteOn (size / blockSize) count (imageOf (size / blockSize) count image) id ≡ refuse absent =
+    simp (ne-eqb id reservedId (x .user), if-false, x .rests) (rw (x .told, inRest)) in
+    ap (λ (d : Due). answer d a) (call-on size count whole refuse (λ B S im. deleteOn B S im id) ∙ what)

@@ -1,0 +1,2 @@
+-- The bench sheet's rows marked P.
+pub mod BenchSheet
