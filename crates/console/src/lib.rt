@@ -107,7 +107,8 @@ pub fn run(
 
 // Reads an ID into a buffer of so many bytes, or of the largest, which any value fits, and prints the value or the refusal.
 pub fn show(image: &[u8], sector_size: usize, count: usize, id: u32, room: usize) -> Reply
-    ensures { λ r. ⌜ replyNumbersOf r ≡ rule.replyNumbers (rule.read «sector_size» count (now (image .entry)) id (min room largest)) ⌝ }
+    ensures answer { λ r. ⌜ replyNumbersOf r ≡ rule.replyNumbers (rule.read «sector_size» count (now (image .entry)) id (min room largest)) ⌝ }
+    ensures image { λ r. ⌜ now (image .exit) ≡ now (image .entry) ⌝ }
 {
     let mut space = io::large_buffer();
     let buffer: &mut [u8] = &mut space;

@@ -1,6 +1,6 @@
 -- `show`: the buffer is as long as the room asked for, up to the largest.
 -- Assumes nothing.
-use mathlib.Core.Path.{sym, ap, _∙_}
+use mathlib.Core.Path.{refl, sym, ap, _∙_}
 use Prim.Native.Nat.{ℕ, min}
 use borrow.Author.Needs.{needs}
 use Rattle.rules.specs.Calls.{read, replyNumbers}
@@ -34,12 +34,14 @@ returns c =
     let k = c .before .before .before .before .before in
     let l = k .before .before in
     let b = l .before .before .before in
-    let start = b .before .before in
-    ap replyNumbersOf (c .before .replied .ensures)
-    ∙ k .read .ensures .0
-    ∙ ap
-    (λ (n : ℕ). replyNumbers (read (start .args .sector-size) (start .args .count) (start .args .image .now) (start .args .id) n))
-    (sym (l .least .ensures .0 .1) ∙ l .least .ensures .1 ∙ ap (min (start .args .room)) (sym (b .large-buffer .ensures)))
+    let start = b .before .before in (
+      ap replyNumbersOf (c .before .replied .ensures)
+          ∙ k .read .ensures .0
+          ∙ ap
+          (λ (n : ℕ). replyNumbers (read (start .args .sector-size) (start .args .count) (start .args .image .now) (start .args .id) n))
+          (sym (l .least .ensures .0 .1) ∙ l .least .ensures .1 ∙ ap (min (start .args .room)) (sym (b .large-buffer .ensures))),
+      refl,
+    )
 
 pub show-spec : {M : Type 1} → statement M
 show-spec =
