@@ -1,15 +1,20 @@
 -- Demand 3: after any list of calls the image tells what the book says.
 use mathlib.Core.Path.{_≡_, refl, sym, ap, subst, subst₂, _∙_}
 use mathlib.Core.List.{List, [], _∷_}
+use mathlib.Core.Bool.{true}
 use Prim.Native.Nat.{ℕ}
+use native.Mathlib.Omega.{arith}
+use lib.ListN.{length}
 use Rattle.rules.specs.Notation.{Each, empty, each}
+use Rattle.rules.specs.Ground.{legalSizes}
 use Rattle.rules.specs.Calls as rule
 use Rattle.rules.specs.Demands as rules
-use Rattle.rules.specs.Demands.{Call, Typed, Model, emptyModel, modelAfter, due, budget}
+use Rattle.rules.specs.Demands.{Call, Typed, AreBytes, Model, emptyModel, modelAfter, due, budget}
 use Rattle.rules.proofs.Crash.Fresh.{format-succeeds}
 use Rattle.rules.proofs.Crash.Safe.{Safe, safe-format, safe-store, safe-mounts}
 use Rattle.answer.specs.declared.Outcome.{Outcome}
-use Rattle.acceptance.specs.Demands.{told, Fresh, formatted, Runs, mounted, written, deleted, Ran, ended, called, Serves, Holds, Demand3, Histories}
+use Rattle.acceptance.specs.Runs.{Formats}
+use Rattle.acceptance.specs.Demands.{told, Fresh, formatted, Runs, mounted, written, deleted, Ran, ended, called, Completes, Serves, Holds, Demand3, Histories}
 use Rattle.acceptance.proofs.Numbers.{no-room}
 use Rattle.acceptance.proofs.Demand1.{demand1}
 use Rattle.acceptance.proofs.Steps.{same-number, reads-as, completes, kept}
@@ -97,5 +102,17 @@ module _ (size count : ℕ) where
       let (same, left) = call-alike x y in
       list-alike (subst₂ (λ (l : List ℕ) (r : Outcome). Ran size count rest l (modelAfter call (told r .number) book) after bookAfter) left same ran) ran′
 
+-- a format of bytes of legal sizes, with allowance enough
+format-completes : (size count : ℕ) (bytes : List ℕ) → legalSizes size count (length bytes) ≡ true → Completes (Formats size count bytes) 0
+format-completes size count bytes legal = completes (λ a after r x. x .meets .numbers) (format-succeeds size count bytes legal)
+
+some-fresh : (size count : ℕ) (bytes : List ℕ) → AreBytes bytes → legalSizes size count (length bytes) ≡ true → (image : List ℕ) × Fresh size count image
+unfolding rules.gives
+some-fresh size count bytes typed legal =
+    let whole : Completes (Formats size count bytes) 0 = format-completes size count bytes legal in
+    let (image, r, x) = demand1 .formats size count .answered bytes (whole .stores) in
+    (image, formatted typed x (ap (λ (n : rule.Numbers). n .number) (whole .whole x (omega arith))))
+
 pub histories : (size count : ℕ) → Histories size count
-histories size count = record { begins = λ bytes legal. completes (λ a after r x. x .meets .numbers) (format-succeeds size count bytes legal); runs = runs size count; alike = λ x y. list-alike size count x y }
+histories size count =
+    record { begins = format-completes size count; fresh = some-fresh size count; runs = runs size count; alike = λ x y. list-alike size count x y }

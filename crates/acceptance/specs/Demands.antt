@@ -212,10 +212,11 @@ Demand3 =
     (size count : ℕ) (calls : List Call) (fresh image : List ℕ) (book : Model)
     → Each Typed calls → Fresh size count fresh → Ran size count calls fresh emptyModel image book → Holds size count image book
 
--- None of this is empty: bytes of legal sizes can be formatted, and every list of calls has a run from any image, and only
--- one.
+-- None of this is empty: bytes of legal sizes can be formatted, which leaves an image to start from, and every list of calls
+-- has a run from any image, and only one.
 pub record Histories (size count : ℕ) : Type 0 where
   pub begins : (bytes : List ℕ) → legalSizes size count (length bytes) ≡ true → Completes (Formats size count bytes) 0
+  pub fresh : (bytes : List ℕ) → AreBytes bytes → legalSizes size count (length bytes) ≡ true → (image : List ℕ) × Fresh size count image
   pub runs : (calls : List Call) (before : List ℕ) (book : Model) → (after : List ℕ) × (bookAfter : Model) × Ran size count calls before book after bookAfter
   pub alike : {calls : List Call} {before : List ℕ} {book : Model} {after after′ : List ℕ} {bookAfter bookAfter′ : Model}
       → Ran size count calls before book after bookAfter → Ran size count calls before book after′ bookAfter′

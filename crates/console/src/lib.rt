@@ -31,7 +31,8 @@ pub fn call(
     value: &[u8],
     allowance: u32,
 ) -> Outcome
-    ensures { λ r. ⌜ Leaves «sector_size» (dueOf «sector_size» count command (now (value .entry)) (now (image .entry))) allowance (now (image .entry)) (now (image .exit)) r ⌝ }
+    ensures outcome { λ r. ⌜ Leaves «sector_size» (dueOf «sector_size» count command (now (value .entry)) (now (image .entry))) allowance (now (image .entry)) (now (image .exit)) r ⌝ }
+    ensures value { λ r. ⌜ now (value .exit) ≡ now (value .entry) ⌝ }
 {
     match command {
         Command::Format => store::format(image, sector_size, count, allowance),
@@ -87,7 +88,8 @@ pub fn run(
     value: &[u8],
     allowance: u32,
 ) -> Outcome
-    ensures { λ r. ⌜ Leaves «sector_size» (dueOf «sector_size» count command (now (value .entry)) (now (image .entry))) allowance (now (image .entry)) (now (image .exit)) r ⌝ }
+    ensures outcome { λ r. ⌜ Leaves «sector_size» (dueOf «sector_size» count command (now (value .entry)) (now (image .entry))) allowance (now (image .entry)) (now (image .exit)) r ⌝ }
+    ensures value { λ r. ⌜ now (value .exit) ≡ now (value .entry) ⌝ }
 {
     let mut space = io::large_buffer();
     let size = part::copied(image, &mut space);

@@ -109,14 +109,15 @@ fn digit(n: u8) -> u8 {
     if low < 10 { low + 48 } else { low + 87 }
 }
 
-// Room for them.
+// Room for them. Free: what stands there.
 fn digits() -> [u8; DIGITS]
     ensures { λ r. ⌜ 131072 ≡ length r ⌝ }
 {
     [0; DIGITS]
 }
 
-// Puts the hex digits of the bytes at the start of the text, as far as they fit, and answers how many there are.
+// Puts the hex digits of the bytes at the start of the text, as far as they fit, and answers how many there are. Free: the text, and
+// how many of its places they take.
 fn spelled(bytes: &[u8], text: &mut [u8]) -> usize
     ensures { λ r. ⌜ Counts r (now (text .exit)) ⌝ }
 {

@@ -78,7 +78,8 @@ fn renewed_within(
     renewed
 }
 
-// The marks with those entries of sector s marked as well that an entry of sector t renews.
+// The marks with those entries of sector s marked as well that an entry of sector t renews. Free: all of them, where those that are
+// given are not the marks of some later entries.
 fn renewed_by_sector(
     image: &[u8],
     g: Geometry,

@@ -49,7 +49,7 @@ returns c =
     let b = p .before .before in
     let start = b .before .before .before in
     let before : List ℕ = start .args .before .now in
-    c .before .call .ensures .last
+    c .before .call .ensures .0 .last
     ∙ ap
     (λ (image : List ℕ). lastOf
     last.Nothing
