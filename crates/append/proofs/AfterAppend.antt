@@ -20,10 +20,11 @@ use Rattle.rules.proofs.Blocks.Append.{append-atomic}
 use Rattle.rules.proofs.Blocks.OnBytes.{Lies, image-of-bytes, inside-lie}
 use Rattle.rules.proofs.Ring.History.{changed-here, changed-other}
 use Rattle.layout.specs.declared.Geometry.{Geometry}
+use Rattle.layout.specs.Numbers.{sectorAt}
 use Rattle.layout.specs.Geometry.{blocksOf, sectorsOf, Backs}
 use Rattle.entry.specs.Answer.{scanOf, scanAs}
-use Rattle.image.specs.declared.Summary.{Summary}
-use Rattle.image.specs.Answer.{summaryAs, viewsIn}
+use Rattle.image.specs.declared.active.Active.{Active}
+use Rattle.image.specs.Answer.{viewsIn, activeAs}
 use Rattle.image.proofs.Sectors.{views-count}
 use Rattle.log.specs.declared.Budget.{Budget}
 use Rattle.log.specs.Budget.{spent, Did, Consistent}
@@ -31,16 +32,16 @@ use Rattle.append.specs.Append.{withEntry}
 use Rattle.log.proofs.Laws.{did-cut-as, did-image, did-whole}
 use Rattle.append.proofs.Appending.{blocksIn}
 
--- one entry more, by the summary
-pub with-entry : (e : Entry) (v : View) → withEntry (summaryAs v) (e .head) ≡ summaryAs (addedView e v)
-with-entry e v =
+-- one entry more, by what is carried
+pub with-entry : (s : ℕ) (e : Entry) (v : View) → withEntry (activeAs s v) (e .head) ≡ activeAs s (addedView e v)
+with-entry s e v =
     let count : length (v .entries) + 1 ≡ length (v .entries ++ (e ∷ [])) = sym (length-append (v .entries) (e ∷ [])) in
     let scan = sym (after-snoc start (v .entries) e) in
-    λ i. record { cycle = v .cycle; closed = v .closed; entries = count i; scan = scanAs (scan i) }
+    λ i. record { sector = sectorAt s; cycle = v .cycle; entries = count i; scan = scanAs (scan i) }
 
-module _ {g : Geometry} {bytes left : List ℕ} {s : ℕ} {summary : Summary} {e : Entry} {budget r : Budget} (k : Backs g bytes)
-    (typed : Each (λ b. b < 256) bytes) (inside : s < sectorsOf g) (known : summary ≡ summaryAs (viewAt (viewsIn g bytes) s)) (proper : IsProper e)
-    (within : isWithin (blocksOf g) (scanOf (summary .scan)) (e .head) ≡ true)
+module _ {g : Geometry} {bytes left : List ℕ} {s : ℕ} {active : Active} {e : Entry} {budget r : Budget} (k : Backs g bytes)
+    (typed : Each (λ b. b < 256) bytes) (inside : s < sectorsOf g) (known : active ≡ activeAs s (viewAt (viewsIn g bytes) s)) (proper : IsProper e)
+    (within : isWithin (blocksOf g) (scanOf (active .scan)) (e .head) ≡ true)
     (did : Did g bytes (append (blocksOf g) s e (blocksIn g bytes)) budget left r) where
   atomic : IsAtomic (blocksOf g) (sectorsOf g) (append (blocksOf g) s e) (blocksIn g bytes) (changed (addedView e) s (viewsIn g bytes))
   atomic =
@@ -55,13 +56,13 @@ module _ {g : Geometry} {bytes left : List ℕ} {s : ℕ} {summary : Summary} {e
   pub appended-views : r .cut ≡ false → viewsIn g left ≡ changed (addedView e) s (viewsIn g bytes)
   appended-views whole = ap (viewsOf (blocksOf g)) (did-whole did k append-lies whole) ∙ atomic .whole
 
-  -- and so its summary, and every other sector
-  pub appended-summary : r .cut ≡ false → withEntry summary (e .head) ≡ summaryAs (viewAt (viewsIn g left) s)
-  appended-summary whole =
+  -- and so what is carried of it, and every other sector
+  pub appended-active : r .cut ≡ false → withEntry active (e .head) ≡ activeAs s (viewAt (viewsIn g left) s)
+  appended-active whole =
       let views : List View = viewsIn g bytes in
-      ap (λ (x : Summary). withEntry x (e .head)) known
-      ∙ with-entry e (viewAt views s)
-      ∙ ap summaryAs (sym (changed-here (addedView e) s views (omega (arith, views-count g bytes))) ∙ ap (λ (vs : List View). viewAt vs s) (sym (appended-views whole)))
+      ap (λ (x : Active). withEntry x (e .head)) known
+      ∙ with-entry s e (viewAt views s)
+      ∙ ap (activeAs s) (sym (changed-here (addedView e) s views (omega (arith, views-count g bytes))) ∙ ap (λ (vs : List View). viewAt vs s) (sym (appended-views whole)))
 
   pub appended-others : r .cut ≡ false → (t : ℕ) → (t ≡ s → ⊥) → viewAt (viewsIn g left) t ≡ viewAt (viewsIn g bytes) t
   appended-others whole t other =

@@ -1,45 +1,49 @@
-// Appends an entry to a sector: its data blocks, the look-ahead, and last the entry itself, with which it shows.
+// Appends an entry to the active sector: its data blocks, the look-ahead, and last the entry itself, with which it shows.
 ghost use mathlib.Core.Path.{_≡_};
-ghost use mathlib.Core.Bool.{true};
+ghost use mathlib.Core.Bool.{true, false};
 ghost use mathlib.Core.List.{_++_};
 ghost use Prim.Native.Nat.{_+_, _^_, _≤_, _<_};
 ghost use lib.ListN.{length, take, drop};
 ghost use Rattle.rules.specs.Notation.{erased};
 ghost use Rattle.rules.specs.Ground.{blockSize, imageOf};
 ghost use Rattle.rules.specs.Look as rule;
-ghost use Rattle.rules.specs.Meaning.{viewAt};
 ghost use Rattle.rules.specs.Stores as stores;
-ghost use Rattle.layout.specs.Numbers.{sectorNo, blockNo};
+ghost use Rattle.layout.specs.Numbers.{sectorNo};
 ghost use Rattle.layout.specs.Geometry.{blocksOf, sectorsOf, Backs};
 ghost use Rattle.entry.specs.Answer.{scanOf, headOf, lengthOf, Small};
-ghost use Rattle.image.specs.Answer.{summaryAs, viewsIn};
+ghost use Rattle.image.specs.Answer.{Carries};
 ghost use Rattle.log.specs.Budget.{kindOf, Did, Consistent};
-ghost use Rattle.append.specs.Append.{withEntry, valueBlocks, aheadStores, entryStores, Fits};
+ghost use Rattle.append.specs.Append.{withEntry, entryFor, valueBlocks, nextBlock, aheadStores, entryStores, Fits};
 use entry::Head;
-use entry::Scan;
 use entry::look;
-use image::Summary;
+use image::active::Active;
 use layout::Block;
 use layout::Geometry;
-use layout::Sector;
 use log::Budget;
 use log::Kind;
 use log::blank::put_blank_if;
 use log::blocks::is_entry;
 use log::put;
 
-// What a sector comes to after one more entry of this head.
-pub fn appended(summary: Summary, head: Head) -> Summary
-    requires { ⌜ summary .entries ≤ 4096 ⌝ }
-    requires { ⌜ Small (summary .scan) ⌝ }
+// What is left of the budget, and what is carried of the active sector now. Where the budget is cut that says nothing.
+pub struct Appended {
+    pub budget: Budget,
+    pub active: Active,
+}
+
+// The sector after one more entry of this head.
+fn with_entry(active: Active, head: Head) -> Active
+    requires { ⌜ active .entries ≤ 4096 ⌝ }
+    requires { ⌜ Small (active .scan) ⌝ }
     requires { ⌜ lengthOf head < 2 ^ 16 ⌝ }
-    ensures { λ r. ⌜ r ≡ withEntry summary (headOf head) ⌝ }
+    ensures { λ r. ⌜ r ≡ withEntry active (headOf head) ⌝ }
 {
-    let scan = summary.scan;
-    Summary {
-        cycle: summary.cycle,
-        closed: summary.closed,
-        entries: summary.entries + 1,
+    let sector = active.sector;
+    let scan = active.scan;
+    Active {
+        sector: sector,
+        cycle: active.cycle,
+        entries: active.entries + 1,
         scan: scan.after(head),
     }
 }
@@ -55,23 +59,18 @@ fn kind(head: Head) -> Kind
     }
 }
 
-// Block b is blanked where it would read as an entry.
-fn look_ahead(
-    image: &mut [u8],
-    g: Geometry,
-    s: Sector,
-    b: Block,
-    cycle: u8,
-    before: Scan,
-    budget: Budget,
-) -> Budget
+// The block that the next entry would take is blanked where it would read as one.
+fn look_ahead(image: &mut [u8], g: Geometry, active: Active, budget: Budget) -> Budget
     requires { ⌜ Backs g (now image) ⌝ }
-    requires { ⌜ sectorNo s < sectorsOf g ⌝ }
-    requires { ⌜ blockNo b < blocksOf g ⌝ }
-    requires { ⌜ Small before ⌝ }
-    ensures { λ r. ⌜ Did g (now (image .entry)) (aheadStores (blocksOf g) (sectorNo s) (blockNo b) cycle (scanOf before) (imageOf (blocksOf g) (sectorsOf g) (now (image .entry)))) budget (now (image .exit)) r ⌝ }
+    requires { ⌜ sectorNo (active .sector) < sectorsOf g ⌝ }
+    requires { ⌜ active .entries + 3 ≤ blocksOf g ⌝ }
+    requires { ⌜ Small (active .scan) ⌝ }
+    ensures { λ r. ⌜ Did g (now (image .entry)) (aheadStores (blocksOf g) active (imageOf (blocksOf g) (sectorsOf g) (now (image .entry)))) budget (now (image .exit)) r ⌝ }
 {
-    let test = is_entry(image, g, s, b, cycle, before);
+    let s = active.sector;
+    let scan = active.scan;
+    let b = Block::new(g.blocks() - 3 - active.entries);
+    let test = is_entry(image, g, s, b, active.cycle, scan);
     put_blank_if(image, g, s, b, test, budget)
 }
 
@@ -79,34 +78,33 @@ fn look_ahead(
 pub fn put_entry(
     image: &mut [u8],
     g: Geometry,
-    s: Sector,
-    summary: Summary,
+    active: Active,
     head: Head,
     bytes: [u8; Geometry::BLOCK_SIZE],
     budget: Budget,
-) -> Budget
+) -> Appended
     requires { ⌜ Backs g (now image) ⌝ }
-    requires { ⌜ sectorNo s < sectorsOf g ⌝ }
+    requires { ⌜ sectorNo (active .sector) < sectorsOf g ⌝ }
     requires { ⌜ Consistent budget ⌝ }
-    requires { ⌜ Fits (blocksOf g) summary head ⌝ }
-    ensures { λ r. ⌜ Did g (now (image .entry)) (entryStores (blocksOf g) (sectorNo s) summary (headOf head) bytes (imageOf (blocksOf g) (sectorsOf g) (now (image .entry)))) budget (now (image .exit)) r ⌝ }
+    requires { ⌜ Fits (blocksOf g) active head ⌝ }
+    ensures did { λ r. ⌜ Did g (now (image .entry)) (entryStores (blocksOf g) active (headOf head) bytes (imageOf (blocksOf g) (sectorsOf g) (now (image .entry)))) budget (now (image .exit)) (r .budget) ⌝ }
+    ensures active { λ r. ⌜ r .active ≡ withEntry active (headOf head) ⌝ }
 {
-    let place = g.blocks() - 3 - summary.entries;
-    let scan = summary.scan;
-    let after = scan.after(head);
-    let looked = look_ahead(
-        image,
-        g,
-        s,
-        Block::new(place - 1),
-        summary.cycle,
-        after,
-        budget,
-    );
+    let next = with_entry(active, head);
+    let looked = look_ahead(image, g, next, budget);
     if looked.cut {
-        return looked;
+        return Appended {
+            budget: looked,
+            active: next,
+        };
     }
-    put(image, g, s, Block::new(place), kind(head), bytes, looked)
+    let s = active.sector;
+    let b = Block::new(g.blocks() - 3 - active.entries);
+    let left = put(image, g, s, b, kind(head), bytes, looked);
+    Appended {
+        budget: left,
+        active: next,
+    }
 }
 
 // A block of some bytes: sixteen of them from a place on, FF behind their end.
@@ -127,21 +125,16 @@ pub fn data_block(value: &[u8], from: usize) -> [u8; Geometry::BLOCK_SIZE]
     block
 }
 
-// The data blocks of a value, upward from block `first`. A value of 1 to 8 bytes has none.
-fn put_data(
-    image: &mut [u8],
-    g: Geometry,
-    s: Sector,
-    first: usize,
-    value: &[u8],
-    budget: Budget,
-) -> Budget
+// The data blocks of a value, upward from where the sector's data ends. A value of 1 to 8 bytes has none.
+fn put_data(image: &mut [u8], g: Geometry, active: Active, value: &[u8], budget: Budget) -> Budget
     requires { ⌜ Backs g (now image) ⌝ }
-    requires { ⌜ sectorNo s < sectorsOf g ⌝ }
+    requires { ⌜ sectorNo (active .sector) < sectorsOf g ⌝ }
     requires { ⌜ Consistent budget ⌝ }
-    requires { ⌜ first + rule.dataBlocks (length (now value)) ≤ blocksOf g ⌝ }
-    ensures { λ r. ⌜ Did g (now (image .entry)) (stores.dataStores (sectorNo s) first (valueBlocks (now (value .entry)))) budget (now (image .exit)) r ⌝ }
+    requires { ⌜ active .scan .«data_end» + rule.dataBlocks (length (now value)) ≤ blocksOf g ⌝ }
+    ensures { λ r. ⌜ Did g (now (image .entry)) (stores.dataStores (sectorNo (active .sector)) (active .scan .«data_end») (valueBlocks (now (value .entry)))) budget (now (image .exit)) r ⌝ }
 {
+    let s = active.sector;
+    let first = active.scan.data_end;
     let count = look::data_blocks(value.len());
     let mut stored = budget;
     let mut k = 0;
@@ -178,89 +171,43 @@ fn value_bytes(cycle: u8, id: u32, value: &[u8], data_end: usize) -> [u8; Geomet
     encode::long_value(cycle, id, length as u16, offset as u32, crc::crc32(value))
 }
 
-// A value of an ID goes to the sector that comes to this: its data, and then its entry.
-pub fn append_value(
+// The block of an entry of this head, for the sector that is carried.
+fn entry_bytes(active: Active, head: Head, value: &[u8]) -> [u8; Geometry::BLOCK_SIZE]
+    requires { ⌜ length (now value) < 2 ^ 16 ⌝ }
+    requires { ⌜ active .scan .«data_end» ≤ 4096 ⌝ }
+    ensures { λ r. ⌜ r ≡ stores.entryBlock (active .cycle) (active .scan .«data_end») (entryFor head (now (value .entry))) ⌝ }
+{
+    match head {
+        Head::Done => encode::done(active.cycle),
+        Head::Deletion(id) => encode::deletion(active.cycle, id),
+        Head::Value(id, _) => value_bytes(active.cycle, id, value, active.scan.data_end),
+    }
+}
+
+// Appends an entry of this head. A value's bytes are lent; a deletion and a done have none.
+pub fn append(
     image: &mut [u8],
     g: Geometry,
-    s: Sector,
-    summary: Summary,
-    id: u32,
+    active: Active,
+    head: Head,
     value: &[u8],
     budget: Budget,
-) -> Budget
+) -> Appended
     requires { ⌜ Backs g (now image) ⌝ }
-    requires { ⌜ sectorNo s < sectorsOf g ⌝ }
+    requires { ⌜ Carries g (now image) active ⌝ }
     requires { ⌜ Consistent budget ⌝ }
-    requires { ⌜ summary ≡ summaryAs (viewAt (viewsIn g (now image)) (sectorNo s)) ⌝ }
-    requires { ⌜ rule.isWithin (blocksOf g) (scanOf (summary .scan)) (rule.value id (length (now value))) ≡ true ⌝ }
-    ensures { λ r. ⌜ Did g (now (image .entry)) (stores.append (blocksOf g) (sectorNo s) (stores.valueEntry id (now (value .entry))) (imageOf (blocksOf g) (sectorsOf g) (now (image .entry)))) budget (now (image .exit)) r ⌝ }
+    requires { ⌜ rule.isWithin (blocksOf g) (scanOf (active .scan)) (headOf head) ≡ true ⌝ }
+    requires { ⌜ lengthOf head ≡ length (now value) ⌝ }
+    ensures did { λ r. ⌜ Did g (now (image .entry)) (stores.append (blocksOf g) (sectorNo (active .sector)) (entryFor head (now (value .entry))) (imageOf (blocksOf g) (sectorsOf g) (now (image .entry)))) budget (now (image .exit)) (r .budget) ⌝ }
+    ensures active { λ r. ⌜ (r .budget .cut ≡ false → r .active ≡ withEntry active (headOf head)) ⌝ }
 {
-    let data_end = summary.scan.data_end;
-    let laid = put_data(image, g, s, data_end, value, budget);
+    let laid = put_data(image, g, active, value, budget);
     if laid.cut {
-        return laid;
+        return Appended {
+            budget: laid,
+            active: active,
+        };
     }
-    let bytes = value_bytes(summary.cycle, id, value, data_end);
-    put_entry(
-        image,
-        g,
-        s,
-        summary,
-        Head::Value(id, value.len()),
-        bytes,
-        laid,
-    )
-}
-
-// A deletion of an ID goes there.
-pub fn append_deletion(
-    image: &mut [u8],
-    g: Geometry,
-    s: Sector,
-    summary: Summary,
-    id: u32,
-    budget: Budget,
-) -> Budget
-    requires { ⌜ Backs g (now image) ⌝ }
-    requires { ⌜ sectorNo s < sectorsOf g ⌝ }
-    requires { ⌜ Consistent budget ⌝ }
-    requires { ⌜ summary ≡ summaryAs (viewAt (viewsIn g (now image)) (sectorNo s)) ⌝ }
-    requires { ⌜ rule.isWithin (blocksOf g) (scanOf (summary .scan)) (rule.deletion id) ≡ true ⌝ }
-    ensures { λ r. ⌜ Did g (now (image .entry)) (stores.append (blocksOf g) (sectorNo s) (stores.deletionEntry id) (imageOf (blocksOf g) (sectorsOf g) (now (image .entry)))) budget (now (image .exit)) r ⌝ }
-{
-    put_entry(
-        image,
-        g,
-        s,
-        summary,
-        Head::Deletion(id),
-        encode::deletion(summary.cycle, id),
-        budget,
-    )
-}
-
-// A done goes there, with which a turn is complete but for the reopening.
-pub fn append_done(
-    image: &mut [u8],
-    g: Geometry,
-    s: Sector,
-    summary: Summary,
-    budget: Budget,
-) -> Budget
-    requires { ⌜ Backs g (now image) ⌝ }
-    requires { ⌜ sectorNo s < sectorsOf g ⌝ }
-    requires { ⌜ Consistent budget ⌝ }
-    requires { ⌜ summary ≡ summaryAs (viewAt (viewsIn g (now image)) (sectorNo s)) ⌝ }
-    requires { ⌜ rule.isWithin (blocksOf g) (scanOf (summary .scan)) rule.done ≡ true ⌝ }
-    ensures { λ r. ⌜ Did g (now (image .entry)) (stores.append (blocksOf g) (sectorNo s) stores.doneEntry (imageOf (blocksOf g) (sectorsOf g) (now (image .entry)))) budget (now (image .exit)) r ⌝ }
-{
-    put_entry(
-        image,
-        g,
-        s,
-        summary,
-        Head::Done,
-        encode::done(summary.cycle),
-        budget,
-    )
+    let bytes = entry_bytes(active, head, value);
+    put_entry(image, g, active, head, bytes, laid)
 }

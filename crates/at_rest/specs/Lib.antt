@@ -1,2 +1,1 @@
--- What the contracts of `at_rest` cite, besides the definitions of `rules` and of the crates below.
-pub mod Opened
+-- `at_rest` has no definitions of its own.

@@ -7,9 +7,9 @@ use mathlib.Core.List.{List, [], _∷_}
 use mathlib.Core.Option.{Option, some}
 use Prim.Native.Nat.{ℕ, suc, _<_, _≤_}
 use native.Mathlib.Omega.{arith}
-use lib.ListN.{length}
+use lib.ListN.{length, set, length-set}
 use Rattle.rules.specs.Notation.{Each, concat}
-use Rattle.rules.specs.Ground.{Image}
+use Rattle.rules.specs.Ground.{Image, maxSectors}
 use Rattle.rules.specs.Reading.{Entry, View}
 use Rattle.rules.specs.Meaning.{atRest, Is, stateOf, viewsOf, viewAt, next, allBut, lookup}
 use Rattle.rules.specs.Stores.{apply, nothing, turn, turns, moved}
@@ -22,18 +22,21 @@ use Rattle.rules.proofs.Crash.Cuts.{Goes}
 use Rattle.rules.proofs.Crash.Standing.{turned, Stands, Rests}
 use Rattle.rules.proofs.Crash.Turning.{image-after, turn-goes}
 use Rattle.layout.specs.declared.Geometry.{Geometry}
+use Rattle.layout.specs.Numbers.{sectorNo}
 use Rattle.layout.specs.Geometry.{blocksOf, sectorsOf, Backs}
-use Rattle.image.specs.declared.Summary.{Summary}
-use Rattle.image.specs.Answer.{viewsIn}
+use Rattle.image.specs.declared.active.Active.{Active}
+use Rattle.image.specs.Answer.{viewsIn, activeAs}
 use Rattle.image.proofs.Sectors.{views-count}
-use Rattle.image.proofs.Laws.{rest-inside}
+use Rattle.image.proofs.Laws.{rest-inside, entries-counted}
+use Rattle.live.specs.Counts.{Counts}
+use Rattle.live.proofs.Counting.{counts-turned}
 use Rattle.log.specs.declared.Budget.{Budget}
 use Rattle.log.specs.Budget.{Did, Consistent}
 use Rattle.log.proofs.Laws.{did-none, did-backs, did-consistent, did-whole, did-and-then, did-and-then-cut}
 use Rattle.append.proofs.Appending.{blocksIn}
-use Rattle.turn.specs.declared.Turned.{Turned}
-use Rattle.turn.specs.Turn.{Went}
-use Rattle.change.specs.Ready.{Ready}
+use Rattle.append.specs.declared.Appended.{Appended}
+use Rattle.turn.specs.Turn.{Moved, Turned}
+use Rattle.change.specs.Ready.{Opened}
 
 -- ---- one turn from rest
 
@@ -93,57 +96,97 @@ module _ (g : Geometry) (bytes : List ℕ) (w : ℕ) (k : Backs g bytes) (whole 
         (subst (λ (im : Image). Is (viewsOf (blocksOf g) im) (atRest spare)) (sym made) (goes .whole .is))
 
 -- the sector after the working one is the spare, which has no entry
-pub ready-spare : (g : Geometry) (bytes : List ℕ) (w : ℕ) {sectors : List Summary} → Ready g bytes sectors w
+pub rests-spare : (g : Geometry) (bytes : List ℕ) (w : ℕ) → stateOf (viewsIn g bytes) ≡ some (atRest w)
     → viewAt (viewsIn g bytes) (next (sectorsOf g) w) .entries ≡ []
 unfolding Is
-ready-spare g bytes w ready =
-    ap (λ (n : ℕ). viewAt (viewsIn g bytes) (next n w) .entries) (sym (views-count g bytes)) ∙ state-is (viewsIn g bytes) (atRest w) (ready .rest) .unused
+rests-spare g bytes w rest =
+    ap (λ (n : ℕ). viewAt (viewsIn g bytes) (next n w) .entries) (sym (views-count g bytes)) ∙ state-is (viewsIn g bytes) (atRest w) rest .unused
 
 -- ---- so many of them
 
--- Some of `count` turns from sector w are made, and `due` are left, from the sector that is working now.
-pub record Turning (g : Geometry) (w count : ℕ) (begun : List ℕ) (budget : Budget) (bytes : List ℕ) (left : Budget) (sectors : List Summary) (working due : ℕ) : Type 0 where
+-- Some of `count` turns from sector w are made, and `due` are left, from the sector that is active now.
+pub record Turning (g : Geometry) (w count : ℕ) (begun : List ℕ) (budget : Budget) (bytes : List ℕ) (left : Budget) (active : Active) (counts : List ℕ) (due : ℕ) : Type 0 where
   pub backs : Backs g bytes
   pub whole : IsImage (blocksOf g) (sectorsOf g) (blocksIn g bytes)
   pub consistent : Consistent left
-  pub ready : Ready g bytes sectors working
-  pub onward : moved (sectorsOf g) due working ≡ moved (sectorsOf g) count w
+  pub rests : Opened g bytes active
+  pub counted : Counts (viewsIn g bytes) counts
+  pub room : length counts ≡ maxSectors
+  pub onward : moved (sectorsOf g) due (sectorNo (active .sector)) ≡ moved (sectorsOf g) count w
   pub finish : {after : List ℕ} {r : Budget}
-      → Did g bytes (turns (blocksOf g) (sectorsOf g) due working (blocksIn g bytes)) left after r
+      → Did g bytes (turns (blocksOf g) (sectorsOf g) due (sectorNo (active .sector)) (blocksIn g bytes)) left after r
       → Did g begun (turns (blocksOf g) (sectorsOf g) count w (blocksIn g begun)) budget after r
 
-module _ (g : Geometry) (w count : ℕ) (begun : List ℕ) (budget : Budget) where
-  pub turning-none : {sectors : List Summary} → Backs g begun → IsImage (blocksOf g) (sectorsOf g) (blocksIn g begun) → Consistent budget
-      → Ready g begun sectors w → Turning g w count begun budget begun budget sectors w count
-  turning-none k whole consistent ready =
-      record { backs = k; whole = whole; consistent = consistent; ready = ready; onward = refl; finish = λ did. did }
+module _ (g : Geometry) (count : ℕ) (begun : List ℕ) (budget : Budget) where
+  pub turning-none : {active : Active} {counts : List ℕ} → Backs g begun → IsImage (blocksOf g) (sectorsOf g) (blocksIn g begun) → Consistent budget
+      → Opened g begun active → Counts (viewsIn g begun) counts → length counts ≡ maxSectors
+      → Turning g (sectorNo (active .sector)) count begun budget begun budget active counts count
+  turning-none k whole consistent rests counted room =
+      record { backs = k; whole = whole; consistent = consistent; rests = rests; counted = counted; room = room; onward = refl; finish = λ did. did }
 
-  module _ {bytes : List ℕ} {left : Budget} {sectors : List Summary} {working : ℕ} where
-    pub turning-end : Turning g w count begun budget bytes left sectors working 0
+  module _ {w : ℕ} {bytes : List ℕ} {left : Budget} {active : Active} {counts : List ℕ} where
+    pub turning-end : Turning g w count begun budget bytes left active counts 0
         → Did g begun (turns (blocksOf g) (sectorsOf g) count w (blocksIn g begun)) budget bytes left
     unfolding turns nothing
     turning-end t = t .finish (did-none g bytes left)
 
-    module _ {rest : ℕ} {after : List ℕ} {r : Turned} (t : Turning g w count begun budget bytes left sectors working (suc rest))
-        (went : Went g bytes (turn (blocksOf g) (sectorsOf g) working (blocksIn g bytes)) left after r) where
+    module _ {rest : ℕ} {after : List ℕ} {r : Appended} (t : Turning g w count begun budget bytes left active counts (suc rest))
+        (turned : Turned g (next (sectorsOf g) (sectorNo (active .sector))) bytes (turn (blocksOf g) (sectorsOf g) (sectorNo (active .sector)) (blocksIn g bytes)) left after r) where
       pub turning-cut : r .budget .cut ≡ true → Did g begun (turns (blocksOf g) (sectorsOf g) count w (blocksIn g begun)) budget after (r .budget)
       unfolding turns
       turning-cut cut =
           t .finish
-          (did-and-then-cut (turn (blocksOf g) (sectorsOf g) working) (turns (blocksOf g) (sectorsOf g) rest (next (sectorsOf g) working)) (blocksIn g bytes)
-          (t .consistent) (went .did) cut)
+          (did-and-then-cut (turn (blocksOf g) (sectorsOf g) (sectorNo (active .sector))) (turns (blocksOf g) (sectorsOf g) rest (next (sectorsOf g) (sectorNo (active .sector)))) (blocksIn g bytes)
+          (t .consistent) (turned .did) cut)
 
-      pub turning-more : r .budget .cut ≡ false → Turning g w count begun budget after (r .budget) (r .sectors) (next (sectorsOf g) working) rest
-      unfolding turns moved
-      turning-more uncut =
-          record {
-            backs = did-backs (went .did) (t .backs);
-            whole = turn-whole g bytes working (t .backs) (t .whole) (t .ready .rest) (went .did) uncut;
-            consistent = did-consistent (went .did) (t .consistent);
-            ready = record { summaries = went .sectors uncut; rest = turn-rests g bytes working (t .backs) (t .whole) (t .ready .rest) (went .did) uncut };
-            onward = t .onward;
-            finish = λ did.
-                t .finish
-                (did-and-then (turn (blocksOf g) (sectorsOf g) working) (turns (blocksOf g) (sectorsOf g) rest (next (sectorsOf g) working)) (t .backs)
-                (turn-lies g bytes working (t .backs) (t .whole) (t .ready .rest)) (went .did) uncut did);
-          }
+      module _ (uncut : r .budget .cut ≡ false) where
+        here : sectorNo (r .active .sector) ≡ next (sectorsOf g) (sectorNo (active .sector))
+        here = ap (λ (x : Active). sectorNo (x .sector)) (turned .moved uncut .told)
+
+        inside : sectorNo (active .sector) < sectorsOf g
+        inside = rest-inside g bytes (sectorNo (active .sector)) (t .rests .rest)
+
+        pub turned-inside : sectorNo (r .active .sector) < sectorsOf g
+        turned-inside = omega (arith, here, next-lt (sectorsOf g) (sectorNo (active .sector)) inside)
+
+        pub turned-few : r .active .entries ≤ 4096
+        turned-few =
+            let u : ℕ = next (sectorsOf g) (sectorNo (active .sector)) in
+            let few = entries-counted g after u (next-lt (sectorsOf g) (sectorNo (active .sector)) inside) (t .backs .sound) .few in
+            omega (arith, ap (λ (x : Active). x .entries) (turned .moved uncut .told), few, t .backs .sound .blocks-to)
+
+        turned-rests : Opened g after (r .active)
+        turned-rests =
+            let m = turned .moved uncut in
+            record {
+              carried = record {
+                inside = turned-inside;
+                told = m .told ∙ ap (λ (s : ℕ). activeAs s (viewAt (viewsIn g after) s)) (sym here);
+              };
+              rest = turn-rests g bytes (sectorNo (active .sector)) (t .backs) (t .whole) (t .rests .rest) (turned .did) uncut ∙ ap (λ (s : ℕ). some (atRest s)) (sym here);
+            }
+
+        pub turning-more : {counts′ : List ℕ} → counts′ ≡ set (set counts (sectorNo (r .active .sector)) (r .active .entries)) (next (sectorsOf g) (sectorNo (r .active .sector))) 0
+            → Turning g w count begun budget after (r .budget) (r .active) counts′ rest
+        unfolding turns moved
+        turning-more {counts′} same =
+            let u : ℕ = next (sectorsOf g) (sectorNo (active .sector)) in
+            let m = turned .moved uncut in
+            let views = views-count g bytes in
+            record {
+              backs = did-backs (turned .did) (t .backs);
+              whole = turn-whole g bytes (sectorNo (active .sector)) (t .backs) (t .whole) (t .rests .rest) (turned .did) uncut;
+              consistent = did-consistent (turned .did) (t .consistent);
+              rests = turned-rests;
+              counted =
+                  rw (same, here)
+                  (counts-turned u (next (sectorsOf g) u) (r .active .entries) (t .room) (omega (arith, views, t .backs .sound .sectors-to)) (views-count g after ∙ sym views)
+                  (ap (λ (x : Active). x .entries) (m .told)) (m .unused) (m .others) (t .counted));
+              room = ap length same ∙ simp length-set (t .room);
+              onward = ap (moved (sectorsOf g) rest) here ∙ t .onward;
+              finish = λ {after = after′} {r = r′} did.
+                  t .finish
+                  (did-and-then (turn (blocksOf g) (sectorsOf g) (sectorNo (active .sector))) (turns (blocksOf g) (sectorsOf g) rest u) (t .backs)
+                  (turn-lies g bytes (sectorNo (active .sector)) (t .backs) (t .whole) (t .rests .rest)) (turned .did) uncut
+                  (subst (λ (s : ℕ). Did g after (turns (blocksOf g) (sectorsOf g) rest s (blocksIn g after)) (r .budget) after′ r′) here did));
+            }

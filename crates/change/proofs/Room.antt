@@ -1,18 +1,22 @@
--- The turns of a change, and the entry after them: there is room for it in the sector that is working then, and the stores of both
--- are those of the change.
+-- The turns of a change, and the entry after them: there is room for it in the sector that is active then, and the stores of both are
+-- those of the change. And the limit that decides it.
 -- Assumes nothing.
 use mathlib.Core.Path.{_≡_, refl, sym, ap, subst, _∙_}
-use mathlib.Core.Bool.{true, false}
+use mathlib.Core.Bool.{true, false, false≢true}
 use mathlib.Core.List.{List}
 use mathlib.Core.Option.{some}
-use Prim.Native.Nat.{ℕ, _+_, _≤_, _<_}
+use Prim.Native.Nat.{ℕ, _+_, _^_, _≤_, _<_}
 use native.Mathlib.Omega.{arith}
-use lib.ListN.{getD}
+use lib.Dec.{leb}
+use borrow.Author.Tests.{le-leb, leb-true, leb-false}
 use Rattle.rules.specs.Notation.{Each, concat}
-use Rattle.rules.specs.Ground.{Image, maxSectors}
-use Rattle.rules.specs.Look.{start}
+use Rattle.rules.specs.Ground.{Image}
+use Rattle.rules.specs.Look as rule
+use Rattle.rules.specs.Look.{start, needOf, isDone, isWithin}
 use Rattle.rules.specs.Reading.{Entry, afterAll}
-use Rattle.rules.specs.Meaning.{atRest, Is, stateOf, viewsOf, viewAt, next, allBut, lookup}
+use Rattle.rules.specs.Meaning.{atRest, Is, stateOf, viewsOf, viewAt, next, allBut, lookup, needsOf}
+use Rattle.rules.proofs.Blocks.Counting.{needs-all}
+use Rattle.rules.proofs.Crash.Effects.{short-value}
 use Rattle.rules.specs.Stores.{append, turns, moved, leastTurns, change}
 use Rattle.rules.proofs.Ring.History.{entriesEach}
 use Rattle.rules.proofs.Ring.States.{state-is}
@@ -20,9 +24,12 @@ use Rattle.rules.proofs.Blocks.OnBytes.{Lies, inside-lie, image-of-bytes}
 use Rattle.rules.proofs.Crash.Changing.{turns-go}
 use Rattle.layout.specs.declared.Geometry.{Geometry}
 use Rattle.layout.specs.Geometry.{blocksOf, sectorsOf, Backs}
-use Rattle.entry.specs.Answer.{scanOf}
-use Rattle.image.specs.declared.Summary.{Summary}
-use Rattle.image.specs.Answer.{summaryAs, noSummary, viewsIn}
+use Rattle.layout.specs.Numbers.{sectorNo}
+use Rattle.entry.specs.declared.Head.{Head}
+use Rattle.entry.specs.declared.Head.the-variants as head
+use Rattle.entry.specs.Answer.{scanOf, lengthOf, limitOf}
+use Rattle.image.specs.declared.active.Active.{Active}
+use Rattle.image.specs.Answer.{activeAs, viewsIn, Carries}
 use Rattle.live.specs.Fit.{fitAs}
 use Rattle.image.proofs.Sectors.{views-count}
 use Rattle.image.proofs.Laws.{rest-inside}
@@ -31,18 +38,7 @@ use Rattle.log.specs.declared.Budget.{Budget}
 use Rattle.log.specs.Budget.{Did, Consistent}
 use Rattle.log.proofs.Laws.{did-whole, did-and-then, did-and-then-cut}
 use Rattle.append.proofs.Appending.{blocksIn}
-use Rattle.change.specs.Ready.{Ready}
-
--- ---- the summary of the working sector
-
-module _ (g : Geometry) (bytes : List ℕ) {sectors : List Summary} {w : ℕ} (k : Backs g bytes) (ready : Ready g bytes sectors w) where
-  pub ready-inside : w < maxSectors
-  ready-inside = omega (arith, rest-inside g bytes w (ready .rest), k .sound .sectors-to)
-
-  pub ready-summary : {n : ℕ} → n ≡ w → getD sectors n noSummary ≡ summaryAs (viewAt (viewsIn g bytes) w)
-  ready-summary same =
-      ap (λ (s : ℕ). getD sectors s noSummary) same
-      ∙ ready .summaries .each w (omega (arith, views-count g bytes, rest-inside g bytes w (ready .rest)))
+use Rattle.change.specs.Ready.{Changes}
 
 -- ---- the turns, and then the entry
 
@@ -62,8 +58,8 @@ module _ (g : Geometry) (bytes : List ℕ) (w t : ℕ) (k : Backs g bytes) (type
 
   module _ {middle : List ℕ} {budget left : Budget} (did : Did g bytes (turns (blocksOf g) (sectorsOf g) t w (blocksIn g bytes)) budget middle left)
       (uncut : left .cut ≡ false) {working : ℕ} (here : working ≡ moved (sectorsOf g) t w) where
-    pub room-left : {summary : Summary} (need limit : ℕ) → leastTurns need limit w (viewsIn g bytes) ≡ some t
-        → summary ≡ summaryAs (viewAt (viewsIn g middle) working) → scanOf (summary .scan) .needs + need ≤ limit
+    pub room-left : {active : Active} (need limit : ℕ) → leastTurns need limit w (viewsIn g bytes) ≡ some t
+        → active ≡ activeAs working (viewAt (viewsIn g middle) working) → scanOf (active .scan) .needs + need ≤ limit
     room-left need limit least known =
         let room : afterAll start (viewAt (viewsIn g middle) (moved (sectorsOf g) t w) .entries) .needs + need ≤ limit =
         subst (λ (im : Image). afterAll start (viewAt (viewsOf (blocksOf g) im) (moved (sectorsOf g) t w) .entries) .needs + need ≤ limit)
@@ -84,3 +80,40 @@ pub change-cut : (g : Geometry) (bytes : List ℕ) (w t : ℕ) (e : Entry) {midd
 unfolding change
 change-cut g bytes w t e consistent did cut =
     did-and-then-cut (turns (blocksOf g) (sectorsOf g) t w) (append (blocksOf g) (moved (sectorsOf g) t w) e) (blocksIn g bytes) consistent did cut
+
+-- ---- the limit of an entry that is no done
+
+within-limit : (B : ℕ) (scan : rule.Scan) (h : rule.Head) → isDone h ≡ false → isWithin B scan h ≡ leb (scan .needs + needOf h) (limitOf B h)
+unfolding isWithin isDone limitOf
+within-limit B scan rule.done plain = absurd (false≢true (sym plain))
+within-limit B scan (rule.deletion id) plain = refl
+within-limit B scan (rule.value id len) plain = refl
+
+pub fits-within : (B : ℕ) (scan : rule.Scan) (h : rule.Head) → isDone h ≡ false → scan .needs + needOf h ≤ limitOf B h → isWithin B scan h ≡ true
+fits-within B scan h plain fits = within-limit B scan h plain ∙ le-leb (scan .needs + needOf h) (limitOf B h) fits
+
+pub within-fits : (B : ℕ) (scan : rule.Scan) (h : rule.Head) → isDone h ≡ false → isWithin B scan h ≡ true → scan .needs + needOf h ≤ limitOf B h
+within-fits B scan h plain is = leb-true (scan .needs + needOf h) (limitOf B h) (sym (within-limit B scan h plain) ∙ is)
+
+pub beyond-limit : (B : ℕ) (scan : rule.Scan) (h : rule.Head) → isDone h ≡ false → isWithin B scan h ≡ false → limitOf B h < scan .needs + needOf h
+beyond-limit B scan h plain not = leb-false (scan .needs + needOf h) (limitOf B h) (sym (within-limit B scan h plain) ∙ not)
+
+-- the limit lies within the sector, and a value within it has a length that fits its field
+pub limit-few : (B : ℕ) (h : rule.Head) → limitOf B h ≤ B
+unfolding limitOf
+limit-few B rule.done = omega arith
+limit-few B (rule.deletion id) = omega arith
+limit-few B (rule.value id len) = omega arith
+
+pub changes-short : (B : ℕ) (h : Head) {value : List ℕ} → B ≤ 4096 → Changes B h value → lengthOf h < 2 ^ 16
+unfolding needOf limitOf
+changes-short B head.Done few c = omega arith
+changes-short B (head.Deletion id) few c = omega arith
+changes-short B (head.Value id len) few c = short-value B len few (omega (arith, c .fits))
+
+-- ---- the needs of the active sector
+
+pub active-needs : (g : Geometry) (bytes : List ℕ) {active : Active} → Carries g bytes active
+    → active .scan .needs ≡ needsOf (viewAt (viewsIn g bytes) (sectorNo (active .sector)) .entries)
+active-needs g bytes {active} carried =
+    ap (λ (x : Active). x .scan .needs) (carried .told) ∙ needs-all (viewAt (viewsIn g bytes) (sectorNo (active .sector)) .entries)

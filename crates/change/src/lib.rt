@@ -1,126 +1,127 @@
-// Makes a change: the turns that make room for an entry, and then the entry, in the sector that works after them.
+// Makes a change, a value or a deletion, in an image at rest: in the working sector where there is room for it, else after the least
+// number of turns that make room.
 ghost use mathlib.Core.Path.{_≡_};
 ghost use mathlib.Core.Bool.{false};
 ghost use mathlib.Core.Option.{some};
-ghost use Prim.Native.Nat.{_-_};
+ghost use Prim.Native.Nat.{_*_, _<_};
 ghost use lib.ListN.{length};
-ghost use Rattle.rules.specs.Ground.{keptFromValues, keptFromDeletions, imageOf};
+ghost use Rattle.rules.specs.Ground.{blockSize, imageOf};
 ghost use Rattle.rules.specs.Look as rule;
+ghost use Rattle.rules.specs.Meaning.{atRest, stateOf, viewAt};
 ghost use Rattle.rules.specs.Stores as stores;
+ghost use Rattle.rules.specs.Calls.{changeOn};
 ghost use Rattle.layout.specs.Numbers.{sectorNo};
 ghost use Rattle.layout.specs.Geometry.{blocksOf, sectorsOf, Backs};
-ghost use Rattle.image.specs.Answer.{viewsIn};
+ghost use Rattle.entry.specs.Answer.{scanOf, headOf, limitOf};
+ghost use Rattle.image.specs.Answer.{viewsIn, activeAs};
+ghost use Rattle.live.specs.Counts.{Counts};
 ghost use Rattle.log.specs.Budget.{Did, Consistent};
-ghost use Rattle.change.specs.Ready.{Ready};
-use image::Summary;
-use image::ring;
+ghost use Rattle.append.specs.Append.{entryFor};
+ghost use Rattle.answer.specs.Answer.{Leaves};
+ghost use Rattle.change.specs.Ready.{Opened, Changes};
+use answer::Outcome;
+use answer::Refusal;
+use append::Appended;
+use entry::Head;
+use image::active;
+use image::active::Active;
 use layout::Geometry;
 use layout::Sector;
+use live::counts;
+use live::fit;
+use live::fit::Fit;
 use log::Budget;
 
-// What is left of the budget, what the sectors come to, and which one is working. Where the budget is cut the rest says nothing.
-struct Moved {
-    budget: Budget,
-    sectors: [Summary; Geometry::MAX_SECTORS],
-    working: Sector,
-}
-
-// So many turns, the working sector moving on with each.
+// So many turns. The active sector moves on with each.
 fn turns(
     image: &mut [u8],
     g: Geometry,
-    sectors: [Summary; Geometry::MAX_SECTORS],
-    w: Sector,
+    active: Active,
+    counts: [u16; Geometry::MAX_SECTORS],
     turn_count: usize,
     budget: Budget,
-) -> Moved
+) -> Appended
     requires { ⌜ Backs g (now image) ⌝ }
-    requires { ⌜ Ready g (now image) sectors (sectorNo w) ⌝ }
+    requires { ⌜ Opened g (now image) active ⌝ }
+    requires { ⌜ Counts (viewsIn g (now image)) counts ⌝ }
     requires { ⌜ Consistent budget ⌝ }
-    ensures did { λ r. ⌜ Did g (now (image .entry)) (stores.turns (blocksOf g) (sectorsOf g) «turn_count» (sectorNo w) (imageOf (blocksOf g) (sectorsOf g) (now (image .entry)))) budget (now (image .exit)) (r .budget) ⌝ }
-    ensures ready { λ r. ⌜ (r .budget .cut ≡ false → Ready g (now (image .exit)) (r .sectors) (sectorNo (r .working))) ⌝ }
-    ensures working { λ r. ⌜ (r .budget .cut ≡ false → sectorNo (r .working) ≡ stores.moved (sectorsOf g) «turn_count» (sectorNo w)) ⌝ }
+    ensures did { λ r. ⌜ Did g (now (image .entry)) (stores.turns (blocksOf g) (sectorsOf g) «turn_count» (sectorNo (active .sector)) (imageOf (blocksOf g) (sectorsOf g) (now (image .entry)))) budget (now (image .exit)) (r .budget) ⌝ }
+    ensures rests { λ r. ⌜ (r .budget .cut ≡ false → Opened g (now (image .exit)) (r .active)) ⌝ }
+    ensures working { λ r. ⌜ (r .budget .cut ≡ false → sectorNo (r .active .sector) ≡ stores.moved (sectorsOf g) «turn_count» (sectorNo (active .sector))) ⌝ }
 {
     let mut left = budget;
-    let mut all = sectors;
-    let mut working = w;
+    let mut working = active;
+    let mut all = counts;
     let mut due = turn_count;
     while 0 < due {
-        let turned = turn::turn(image, g, all, working, left);
+        let turned = turn::turn(image, g, all, working.sector, left);
         left = turned.budget;
-        all = turned.sectors;
+        working = turned.active;
         if left.cut {
-            return Moved {
+            return Appended {
                 budget: left,
-                sectors: all,
-                working: working,
+                active: working,
             };
         }
-        working = ring::next_sector(g, working);
+        let counted = counts::turned(all, g, working);
+        all = counted;
         due -= 1;
     }
-    Moved {
+    Appended {
         budget: left,
-        sectors: all,
-        working: working,
+        active: working,
     }
 }
 
-// The value of an ID, after the least number of turns that make room for it.
-pub fn write(
+// A change for which the active sector has no room as it is. Whether turns make room is known before the first store.
+fn make_turning(
     image: &mut [u8],
     g: Geometry,
-    sectors: [Summary; Geometry::MAX_SECTORS],
-    w: Sector,
-    turn_count: usize,
-    id: u32,
+    active: Active,
+    head: Head,
     value: &[u8],
-    budget: Budget,
-) -> Budget
+    allowance: u32,
+) -> Outcome
     requires { ⌜ Backs g (now image) ⌝ }
-    requires { ⌜ Ready g (now image) sectors (sectorNo w) ⌝ }
-    requires { ⌜ Consistent budget ⌝ }
-    requires { ⌜ stores.leastTurns (rule.needOf (rule.value id (length (now value)))) (blocksOf g - keptFromValues) (sectorNo w) (viewsIn g (now image)) ≡ some «turn_count» ⌝ }
-    ensures { λ r. ⌜ Did g (now (image .entry)) (stores.change (blocksOf g) (sectorsOf g) «turn_count» (sectorNo w) (stores.valueEntry id (now (value .entry))) (imageOf (blocksOf g) (sectorsOf g) (now (image .entry)))) budget (now (image .exit)) r ⌝ }
+    requires { ⌜ Opened g (now image) active ⌝ }
+    requires { ⌜ Changes (blocksOf g) head (now value) ⌝ }
+    requires { ⌜ rule.isWithin (blocksOf g) (scanOf (active .scan)) (headOf head) ≡ false ⌝ }
+    ensures { λ r. ⌜ Leaves (blocksOf g * blockSize) (changeOn (blocksOf g) (sectorsOf g) (sectorNo (active .sector)) (limitOf (blocksOf g) (headOf head)) (entryFor head (now (value .entry))) (imageOf (blocksOf g) (sectorsOf g) (now (image .entry)))) allowance (now (image .entry)) (now (image .exit)) r ⌝ }
 {
-    let moved = turns(image, g, sectors, w, turn_count, budget);
+    let counts = counts::entry_counts(image, g);
+    let fit = fit::turns_needed(image, g, counts, active.sector, head.need(), head.limit(g));
+    let Fit::After(turn_count) = fit else {
+        return Outcome::refused(Refusal::NoRoom);
+    };
+    let moved = turns(image, g, active, counts, turn_count, Budget::new(allowance));
     let left = moved.budget;
+    let working = moved.active;
     if left.cut {
-        return left;
+        return Outcome::ended(allowance, left, turn_count as u32);
     }
-    let number = moved.working.number();
-    append::append_value(
-        image,
-        g,
-        moved.working,
-        moved.sectors[number],
-        id,
-        value,
-        left,
-    )
+    let made = append::append(image, g, working, head, value, left);
+    Outcome::ended(allowance, made.budget, turn_count as u32)
 }
 
-// The deletion of an ID, likewise.
-pub fn delete(
+// The change at rest, w being the working sector. A value's bytes are lent; a deletion has none.
+pub fn make(
     image: &mut [u8],
     g: Geometry,
-    sectors: [Summary; Geometry::MAX_SECTORS],
     w: Sector,
-    turn_count: usize,
-    id: u32,
-    budget: Budget,
-) -> Budget
+    head: Head,
+    value: &[u8],
+    allowance: u32,
+) -> Outcome
     requires { ⌜ Backs g (now image) ⌝ }
-    requires { ⌜ Ready g (now image) sectors (sectorNo w) ⌝ }
-    requires { ⌜ Consistent budget ⌝ }
-    requires { ⌜ stores.leastTurns (rule.needOf (rule.deletion id)) (blocksOf g - keptFromDeletions) (sectorNo w) (viewsIn g (now image)) ≡ some «turn_count» ⌝ }
-    ensures { λ r. ⌜ Did g (now (image .entry)) (stores.change (blocksOf g) (sectorsOf g) «turn_count» (sectorNo w) (stores.deletionEntry id) (imageOf (blocksOf g) (sectorsOf g) (now (image .entry)))) budget (now (image .exit)) r ⌝ }
+    requires { ⌜ stateOf (viewsIn g (now image)) ≡ some (atRest (sectorNo w)) ⌝ }
+    requires { ⌜ Changes (blocksOf g) head (now value) ⌝ }
+    ensures { λ r. ⌜ Leaves (blocksOf g * blockSize) (changeOn (blocksOf g) (sectorsOf g) (sectorNo w) (limitOf (blocksOf g) (headOf head)) (entryFor head (now (value .entry))) (imageOf (blocksOf g) (sectorsOf g) (now (image .entry)))) allowance (now (image .entry)) (now (image .exit)) r ⌝ }
 {
-    let moved = turns(image, g, sectors, w, turn_count, budget);
-    let left = moved.budget;
-    if left.cut {
-        return left;
+    let active = active::read(image, g, w);
+    let scan = active.scan;
+    if scan.admits(g, head) {
+        let made = append::append(image, g, active, head, value, Budget::new(allowance));
+        return Outcome::ended(allowance, made.budget, 0);
     }
-    let number = moved.working.number();
-    append::append_deletion(image, g, moved.working, moved.sectors[number], id, left)
+    make_turning(image, g, active, head, value, allowance)
 }

@@ -1,6 +1,6 @@
 // Copies a value to another sector, with its data blocks and CRC-32 as they lie.
 ghost use mathlib.Core.Path.{_≡_};
-ghost use mathlib.Core.Bool.{true};
+ghost use mathlib.Core.Bool.{true, false};
 ghost use mathlib.Core.List.{[]};
 ghost use Prim.Native.Nat.{_+_, _≤_, _<_};
 ghost use lib.ListN.{length, getD, take, drop};
@@ -11,12 +11,14 @@ ghost use Rattle.rules.specs.Stores as stores;
 ghost use Rattle.layout.specs.Numbers.{sectorNo, blockNo};
 ghost use Rattle.layout.specs.Geometry.{blocksOf, sectorsOf, Backs};
 ghost use Rattle.entry.specs.Answer.{scanOf};
-ghost use Rattle.image.specs.Answer.{summaryAs, viewsIn};
+ghost use Rattle.image.specs.Answer.{viewsIn, Carries};
 ghost use Rattle.log.specs.Budget.{Did, Consistent};
+ghost use Rattle.append.specs.Append.{withEntry};
 ghost use Rattle.copying.specs.Copy.{entryIn, sourceAs, copyOf};
+use append::Appended;
 use entry::Head;
 use entry::look;
-use image::Summary;
+use image::active::Active;
 use layout::Block;
 use layout::Geometry;
 use layout::Sector;
@@ -81,30 +83,32 @@ fn copied(block: &[u8], cycle: u8, data_end: usize) -> [u8; Geometry::BLOCK_SIZE
     encode::long_value(cycle, id, length, offset as u32, check)
 }
 
-// So many data blocks, from block `source` of one sector on, to another sector, upward from block `first`.
+// The data blocks of a value in sector `from` are copied as they lie, upward from where the active sector's data ends.
 fn copy_data(
     image: &mut [u8],
     g: Geometry,
     from: Sector,
-    source: usize,
-    to: Sector,
-    first: usize,
-    count: usize,
+    source: Source,
+    active: Active,
     budget: Budget,
 ) -> Budget
     requires { ⌜ Backs g (now image) ⌝ }
     requires { ⌜ sectorNo «from» < sectorsOf g ⌝ }
-    requires { ⌜ sectorNo to < sectorsOf g ⌝ }
-    requires { ⌜ (sectorNo «from» ≡ sectorNo to → ⊥) ⌝ }
+    requires { ⌜ sectorNo (active .sector) < sectorsOf g ⌝ }
+    requires { ⌜ (sectorNo «from» ≡ sectorNo (active .sector) → ⊥) ⌝ }
     requires { ⌜ Consistent budget ⌝ }
-    requires { ⌜ source + count ≤ blocksOf g ⌝ }
-    requires { ⌜ first + count ≤ blocksOf g ⌝ }
-    ensures { λ r. ⌜ Did g (now (image .entry)) (stores.dataStores (sectorNo to) first (take count (drop source (getD (imageOf (blocksOf g) (sectorsOf g) (now (image .entry))) (sectorNo «from») [])))) budget (now (image .exit)) r ⌝ }
+    requires { ⌜ source .first + rule.dataBlocks (source .length) ≤ blocksOf g ⌝ }
+    requires { ⌜ active .scan .«data_end» + rule.dataBlocks (source .length) ≤ blocksOf g ⌝ }
+    ensures { λ r. ⌜ Did g (now (image .entry)) (stores.dataStores (sectorNo (active .sector)) (active .scan .«data_end») (take (rule.dataBlocks (source .length)) (drop (source .first) (getD (imageOf (blocksOf g) (sectorsOf g) (now (image .entry))) (sectorNo «from») [])))) budget (now (image .exit)) r ⌝ }
 {
+    let to = active.sector;
+    let first = active.scan.data_end;
+    let begin = source.first;
+    let count = look::data_blocks(source.length);
     let mut stored = budget;
     let mut k = 0;
     while k < count {
-        let block = block_of(image, g, from, Block::new(source + k));
+        let block = block_of(image, g, from, Block::new(begin + k));
         stored = put(
             image,
             g,
@@ -122,43 +126,36 @@ fn copy_data(
     stored
 }
 
-// Entry n of a sector, a value, is appended to another sector.
+// Entry n of sector `from`, a value, is appended to the active sector.
 pub fn append_copy(
     image: &mut [u8],
     g: Geometry,
     from: Sector,
     n: usize,
-    to: Sector,
-    summary: Summary,
+    active: Active,
     budget: Budget,
-) -> Budget
+) -> Appended
     requires { ⌜ Backs g (now image) ⌝ }
     requires { ⌜ sectorNo «from» < sectorsOf g ⌝ }
-    requires { ⌜ sectorNo to < sectorsOf g ⌝ }
-    requires { ⌜ (sectorNo «from» ≡ sectorNo to → ⊥) ⌝ }
+    requires { ⌜ (sectorNo «from» ≡ sectorNo (active .sector) → ⊥) ⌝ }
     requires { ⌜ Consistent budget ⌝ }
     requires { ⌜ n < length (viewAt (viewsIn g (now image)) (sectorNo «from») .entries) ⌝ }
     requires { ⌜ isValue (entryIn g (now image) (sectorNo «from») n .head) ≡ true ⌝ }
-    requires { ⌜ summary ≡ summaryAs (viewAt (viewsIn g (now image)) (sectorNo to)) ⌝ }
-    requires { ⌜ rule.isWithin (blocksOf g) (scanOf (summary .scan)) (entryIn g (now image) (sectorNo «from») n .head) ≡ true ⌝ }
-    ensures { λ r. ⌜ Did g (now (image .entry)) (stores.append (blocksOf g) (sectorNo to) (entryIn g (now (image .entry)) (sectorNo «from») n) (imageOf (blocksOf g) (sectorsOf g) (now (image .entry)))) budget (now (image .exit)) r ⌝ }
+    requires { ⌜ Carries g (now image) active ⌝ }
+    requires { ⌜ rule.isWithin (blocksOf g) (scanOf (active .scan)) (entryIn g (now image) (sectorNo «from») n .head) ≡ true ⌝ }
+    ensures did { λ r. ⌜ Did g (now (image .entry)) (stores.append (blocksOf g) (sectorNo (active .sector)) (entryIn g (now (image .entry)) (sectorNo «from») n) (imageOf (blocksOf g) (sectorsOf g) (now (image .entry)))) budget (now (image .exit)) (r .budget) ⌝ }
+    ensures active { λ r. ⌜ (r .budget .cut ≡ false → r .active ≡ withEntry active (entryIn g (now (image .entry)) (sectorNo «from») n .head)) ⌝ }
 {
     let block = block_of(image, g, from, Block::new(g.blocks() - 3 - n));
     let source = source_of(&block);
-    let data_end = summary.scan.data_end;
-    let bytes = copied(&block, summary.cycle, data_end);
-    let count = look::data_blocks(source.length);
-    let laid = copy_data(image, g, from, source.first, to, data_end, count, budget);
+    let bytes = copied(&block, active.cycle, active.scan.data_end);
+    let laid = copy_data(image, g, from, source, active, budget);
     if laid.cut {
-        return laid;
+        return Appended {
+            budget: laid,
+            active: active,
+        };
     }
-    append::put_entry(
-        image,
-        g,
-        to,
-        summary,
-        Head::Value(source.id, source.length),
-        bytes,
-        laid,
-    )
+    let head = Head::Value(source.id, source.length);
+    append::put_entry(image, g, active, head, bytes, laid)
 }

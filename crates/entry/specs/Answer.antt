@@ -1,6 +1,7 @@
 -- The crate's types beside the plain data of the rules: `..Of` reads one as the other, `..As` gives the answer for it.
-use Prim.Native.Nat.{ℕ, _≤_}
+use Prim.Native.Nat.{ℕ, _-_, _≤_}
 use mathlib.Core.Option.{Option, none, some}
+use Rattle.rules.specs.Ground.{keptFromValues, keptFromDeletions}
 use Rattle.rules.specs.Look as rule
 use Rattle.entry.specs.declared.Scan.{Scan}
 use Rattle.entry.specs.declared.Head.{Head}
@@ -38,6 +39,12 @@ abbrev pub lengthOf : Head → ℕ
 lengthOf head.Done = 0
 lengthOf (head.Deletion id) = 0
 lengthOf (head.Value id len) = len
+
+-- the most that the needs of a sector may be with an entry of this head among them; a done needs none of it
+unfoldable pub limitOf : (B : ℕ) → rule.Head → ℕ
+limitOf B rule.done = B - keptFromDeletions
+limitOf B (rule.deletion id) = B - keptFromDeletions
+limitOf B (rule.value id len) = B - keptFromValues
 
 abbrev pub formAs : Option rule.Head → Form
 formAs none = form.Wrong

@@ -9,7 +9,7 @@ ghost use Rattle.rules.specs.Entry as fields;
 ghost use Rattle.rules.specs.Look as rule;
 ghost use Rattle.crc.specs.Table.{IsTable};
 ghost use Rattle.layout.specs.Geometry.{blocksOf, Sound};
-ghost use Rattle.entry.specs.Answer.{scanOf, scanAs, headOf, lengthOf, Small, formAs, formLength, verdictAs, leadAs};
+ghost use Rattle.entry.specs.Answer.{scanOf, scanAs, headOf, lengthOf, limitOf, Small, formAs, formLength, verdictAs, leadAs};
 use crate::ERASED;
 use crate::Head;
 use crate::LEAD_LENGTH;
@@ -31,6 +31,14 @@ const ID_AT: usize = 4;
 pub const BODY_AT: usize = 8;
 
 const SECOND_AT: usize = 12;
+
+// The cycle in a block. That of a lead is its sector's.
+pub fn cycle_in(block: &[u8]) -> u8
+    requires { ⌜ length (now block) ≡ blockSize ⌝ }
+    ensures { λ r. ⌜ r ≡ fields.cycleOf (now (block .entry)) ⌝ }
+{
+    block[CYCLE_AT]
+}
 
 // The ID in an entry's block.
 pub fn id_in(block: &[u8]) -> u32
@@ -111,6 +119,32 @@ pub fn data_blocks(length: usize) -> usize
     }
 }
 
+impl Head {
+    // The blocks that an entry takes of its sector's room: none for a done.
+    pub fn need(self) -> usize
+        requires { ⌜ lengthOf self < 2 ^ 16 ⌝ }
+        ensures { λ r. ⌜ r ≡ rule.needOf (headOf self) ⌝ }
+    {
+        match self {
+            Head::Done => 0,
+            Head::Deletion(_) => 1,
+            Head::Value(_, length) => 1 + data_blocks(length),
+        }
+    }
+
+    // The most that the needs of a sector may be with a value, or with a deletion, among them.
+    pub fn limit(self, g: Geometry) -> usize
+        requires { ⌜ Sound g ⌝ }
+        ensures { λ r. ⌜ r ≡ limitOf (blocksOf g) (headOf self) ⌝ }
+    {
+        match self {
+            Head::Value(_, _) => g.value_limit(),
+            Head::Deletion(_) => g.deletion_limit(),
+            Head::Done => g.deletion_limit(),
+        }
+    }
+}
+
 impl Scan {
     // Before the first entry of a sector.
     pub fn start() -> Scan
@@ -152,7 +186,7 @@ impl Scan {
     }
 
     // Does the entry still count in its sector?
-    fn admits(self, g: Geometry, head: Head) -> bool
+    pub fn admits(self, g: Geometry, head: Head) -> bool
         requires { ⌜ Sound g ⌝ }
         requires { ⌜ Small self ⌝ }
         requires { ⌜ lengthOf head < 2 ^ 16 ⌝ }

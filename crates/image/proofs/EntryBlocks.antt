@@ -1,4 +1,4 @@
--- An entry of a sector of an image where it lies: its block, and that the sector's summary counts it.
+-- An entry of a sector of an image where it lies: its block, and how many there can be.
 -- Assumes nothing.
 use mathlib.Core.Path.{_≡_, refl, sym, ap, _∙_}
 use mathlib.Core.List.{List, []}
@@ -14,10 +14,8 @@ use Rattle.layout.specs.declared.Geometry.{Geometry}
 use Rattle.layout.specs.Geometry.{blocksOf, sectorsOf, Sound, Backs}
 use Rattle.layout.proofs.Laws.{block-sized}
 use Rattle.mask.specs.Marks.{maxMarks}
-use Rattle.image.specs.declared.Summary.{Summary}
-use Rattle.image.specs.Answer.{noSummary, viewsIn, Summarizes}
-use Rattle.image.specs.Answer.{noEntry}
-use Rattle.image.proofs.Sectors.{views-count, view-read}
+use Rattle.image.specs.Answer.{viewsIn, noEntry}
+use Rattle.image.proofs.Sectors.{view-read}
 use Rattle.image.proofs.Laws.{entries-counted}
 
 -- the block of an entry
@@ -51,11 +49,7 @@ module _ (g : Geometry) (bytes : List ℕ) (backs : Backs g bytes) (s n : ℕ) (
   pub entry-low : n + 3 ≤ blocksOf g
   entry-low = omega (arith, entries-counted g bytes s inside (backs .sound) .few)
 
--- ---- as many as the survey counted, and there is a mark for each
+-- ---- and there is a mark for each
 
-module _ (g : Geometry) (bytes : List ℕ) (s : ℕ) (inside : s < sectorsOf g) where
-  pub entries-noted : {sectors : List Summary} → Summarizes (viewsIn g bytes) sectors → getD sectors s noSummary .entries ≡ length (viewAt (viewsIn g bytes) s .entries)
-  entries-noted noted = ap (λ (x : Summary). x .entries) (noted .each s (omega (arith, views-count g bytes)))
-
-  pub entries-few : Sound g → length (viewAt (viewsIn g bytes) s .entries) < maxMarks
-  entries-few sound = omega (arith, entries-counted g bytes s inside sound .few, sound .blocks-to)
+pub entries-few : (g : Geometry) (bytes : List ℕ) (s : ℕ) → s < sectorsOf g → Sound g → length (viewAt (viewsIn g bytes) s .entries) < maxMarks
+entries-few g bytes s inside sound = omega (arith, entries-counted g bytes s inside sound .few, sound .blocks-to)

@@ -1,25 +1,25 @@
--- What a caller learns of a survey: the state by the status, the outlines where there is a store, and how small the summaries are.
+-- What a caller learns of a survey, the state by the status; and how small it is what the entries of a sector come to.
 -- Assumes nothing.
 use mathlib.Core.Path.{_≡_, refl, sym, ap, _∙_, subst}
 use mathlib.Core.List.{List, []}
-use mathlib.Core.Option.{Option, none, some, Option·none-ne-some}
+use mathlib.Core.Option.{Option, none, some}
 use Prim.Native.Nat.{ℕ, _<_}
 use native.Mathlib.Omega.{arith}
 use lib.ListN.{getD}
-use Rattle.rules.specs.Notation.{all, placesFrom}
 use Rattle.rules.specs.Ground.{Sector, imageOf}
 use Rattle.rules.specs.Reading.{View, viewOf}
-use Rattle.rules.specs.Meaning.{State, atRest, notReopened, midTurn, Is, isWorking, isUnfinished, viewAt, stateBy, stateOf}
-use Rattle.rules.proofs.Basics.Notation.{took-then}
+use Rattle.rules.specs.Meaning.{State, atRest, notReopened, midTurn, Is, viewAt, stateOf}
 use Rattle.rules.proofs.Blocks.Counting.{Counted, counted}
 use Rattle.rules.proofs.Blocks.Formatted.{length-image}
 use Rattle.rules.proofs.Blocks.OnImage.{view-at}
 use Rattle.rules.proofs.Ring.States.{state-is}
 use Rattle.layout.specs.declared.Geometry.{Geometry}
+use Rattle.layout.specs.Numbers.{sectorNo}
 use Rattle.layout.specs.Geometry.{blocksOf, sectorsOf, Sound}
 use Rattle.sector.proofs.Laws.{Bounded, entries-bounded}
-use Rattle.image.specs.declared.Survey.{Survey}
-use Rattle.image.specs.Answer.{statusOf, statusAs, summaryAs, viewsIn, Outlines, Surveys}
+use Rattle.image.specs.declared.Status.{Status}
+use Rattle.image.specs.declared.active.Active.{Active}
+use Rattle.image.specs.Answer.{statusOf, statusAs, activeAs, viewsIn, Carries}
 use Rattle.image.proofs.Sectors.{views-count}
 
 status-state : (o : Option State) → statusOf (statusAs o) ≡ o
@@ -28,15 +28,9 @@ status-state (some (atRest w)) = refl
 status-state (some (notReopened w)) = refl
 status-state (some (midTurn u)) = refl
 
-module _ {g : Geometry} {bytes : List ℕ} {r : Survey} (k : Surveys g bytes r) where
-  pub survey-state : stateOf (viewsIn g bytes) ≡ statusOf (r .status)
-  survey-state = sym (status-state (stateOf (viewsIn g bytes))) ∙ ap statusOf (sym (k .status))
-
-  pub survey-outlines : {state : State} → stateOf (viewsIn g bytes) ≡ some state → Outlines (viewsIn g bytes) (r .sectors)
-  unfolding stateOf
-  survey-outlines {state} e =
-      let views : List View = viewsIn g bytes in
-      k .sectors (took-then (all (λ (v : View). v .led) views) (stateBy views (placesFrom 0 isWorking views) (placesFrom 0 isUnfinished views)) none (Option·none-ne-some state) e .0)
+-- the state by the status that a survey answers
+pub survey-state : (g : Geometry) (bytes : List ℕ) {r : Status} → r ≡ statusAs (stateOf (viewsIn g bytes)) → stateOf (viewsIn g bytes) ≡ statusOf r
+survey-state g bytes told = sym (status-state (stateOf (viewsIn g bytes))) ∙ ap statusOf (sym told)
 
 -- the working sector of an image at rest is one of its sectors
 pub rest-inside : (g : Geometry) (bytes : List ℕ) (w : ℕ) → stateOf (viewsIn g bytes) ≡ some (atRest w) → w < sectorsOf g
@@ -50,11 +44,18 @@ module _ (g : Geometry) (bytes : List ℕ) (s : ℕ) (inside : s < sectorsOf g) 
       let im = imageOf (blocksOf g) (sectorsOf g) bytes in
       subst P (sym (view-at (blocksOf g) im s (omega (arith, length-image (blocksOf g) (sectorsOf g) bytes)))) (any (getD im s []))
 
-  pub summary-bounded : Sound g → Bounded (blocksOf g) (summaryAs (viewAt (viewsIn g bytes) s) .scan)
+  pub scan-bounded : Sound g → Bounded (blocksOf g) (activeAs s (viewAt (viewsIn g bytes) s) .scan)
   unfolding viewOf
-  summary-bounded sound =
-      of-view (λ (v : View). Bounded (blocksOf g) (summaryAs v .scan)) (λ sector. entries-bounded (blocksOf g) _ sector (sound .blocks-from) (sound .blocks-to))
+  scan-bounded sound =
+      of-view (λ (v : View). Bounded (blocksOf g) (activeAs s v .scan)) (λ sector. entries-bounded (blocksOf g) _ sector (sound .blocks-from) (sound .blocks-to))
 
   pub entries-counted : Sound g → Counted (blocksOf g) (viewAt (viewsIn g bytes) s .entries)
   unfolding viewOf
   entries-counted sound = of-view (λ (v : View). Counted (blocksOf g) (v .entries)) (λ sector. counted (blocksOf g) _ sector (sound .blocks-from))
+
+-- ---- what is carried of a sector
+
+pub carries-at : (g : Geometry) (bytes : List ℕ) (s : ℕ) {active : Active} → s < sectorsOf g → active ≡ activeAs s (viewAt (viewsIn g bytes) s) → Carries g bytes active
+carries-at g bytes s {active} inside told =
+    let same : sectorNo (active .sector) ≡ s = ap (λ (x : Active). sectorNo (x .sector)) told in
+    record { inside = omega (arith, same); told = told ∙ ap (λ (t : ℕ). activeAs t (viewAt (viewsIn g bytes) t)) (sym same) }

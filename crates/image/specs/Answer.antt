@@ -1,25 +1,24 @@
 -- The crate's types beside the plain data of the rules: `..Of` reads one as the other, `..As` gives the answer for it.
 use mathlib.Core.Path.{_≡_}
 use mathlib.Core.Bool.{Bool, true, false}
-use mathlib.Core.List.{List, [], _∷_}
+use mathlib.Core.List.{List, []}
 use mathlib.Core.Option.{Option, none, some}
 use Prim.Native.Nat.{ℕ, _<_}
-use lib.ListN.{length, getD, set}
-use Rattle.rules.specs.Notation.{if_then_else_, all}
+use lib.ListN.{length, set}
+use Rattle.rules.specs.Notation.{if_then_else_}
 use Rattle.rules.specs.Ground.{imageOf}
 use Rattle.rules.specs.Look.{done, start}
 use Rattle.rules.specs.Reading.{Entry, View, afterAll}
-use Rattle.rules.specs.Meaning.{State, atRest, notReopened, midTurn, viewsOf, viewAt, stateBy, stateOf}
+use Rattle.rules.specs.Meaning.{State, atRest, notReopened, midTurn, viewsOf, viewAt}
 use Rattle.layout.specs.declared.Geometry.{Geometry}
 use Rattle.layout.specs.Geometry.{blocksOf, sectorsOf}
 use Rattle.layout.specs.Numbers.{sectorNo, sectorAt}
 use Rattle.entry.specs.Answer.{scanAs}
-use Rattle.image.specs.declared.Summary.{Summary}
+use Rattle.sector.specs.declared.Class.{Class}
+use Rattle.sector.specs.declared.Class.the-variants as class
 use Rattle.image.specs.declared.Status.{Status}
 use Rattle.image.specs.declared.Status.the-variants as status
-use Rattle.image.specs.declared.Survey.{Survey}
-use Rattle.image.specs.declared.outline.Look.{Look}
-use Rattle.image.specs.declared.outline.Look.the-variants as look
+use Rattle.image.specs.declared.active.Active.{Active}
 
 abbrev pub statusOf : Status → Option State
 statusOf (status.Rest w) = some (atRest (sectorNo w))
@@ -33,50 +32,36 @@ statusAs (some (atRest w)) = status.Rest (sectorAt w)
 statusAs (some (notReopened w)) = status.NotReopened (sectorAt w)
 statusAs (some (midTurn u)) = status.MidTurn (sectorAt u)
 
-abbrev pub summaryAs : View → Summary
-summaryAs view =
-    record { cycle = view .cycle; closed = view .closed; entries = length (view .entries); scan = scanAs (afterAll start (view .entries)) }
-
--- the same with the entries of a closed sector left unread
-unfoldable pub outlineAs : View → Summary
-outlineAs view = if view .closed then record { cycle = view .cycle; closed = true; entries = 0; scan = scanAs start } else summaryAs view
-
--- what stands where no sector is
-abbrev pub noSummary : Summary
-noSummary = record { cycle = 0; closed = false; entries = 0; scan = record { needs = 0; «data_end» = 0; done = false } }
-
--- the look at a sector that shows this
-unfoldable pub lookAs : View → Look
-lookAs view = if view .led then look.Led (outlineAs view) else look.NoLead
-
--- the flags with that of sector s set, where it belongs in the class
-unfoldable pub marked : Bool → (s : ℕ) → List Bool → List Bool
-marked belongs s flags = if belongs then set flags s true else flags
-
 -- what the sectors of these bytes show
 abbrev pub viewsIn : Geometry → List ℕ → List View
 viewsIn g bytes = viewsOf (blocksOf g) (imageOf (blocksOf g) (sectorsOf g) bytes)
 
--- The summaries are those of the views, each at its sector's number. Free: the places behind the last sector.
-pub record Summarizes (views : List View) (sectors : List Summary) : Type 0 where
-  pub each : (s : ℕ) → s < length views → getD sectors s noSummary ≡ summaryAs (viewAt views s)
+-- what is carried of sector s, which shows this
+abbrev pub activeAs : (s : ℕ) → View → Active
+activeAs s view =
+    record { sector = sectorAt s; cycle = view .cycle; entries = length (view .entries); scan = scanAs (afterAll start (view .entries)) }
 
--- The same with their outlines. Free: the places behind the last sector.
-pub record Outlines (views : List View) (sectors : List Summary) : Type 0 where
-  pub each : (s : ℕ) → s < length views → getD sectors s noSummary ≡ outlineAs (viewAt views s)
+-- What is carried is that of a sector of the image.
+pub record Carries (g : Geometry) (bytes : List ℕ) (active : Active) : Type 0 where
+  pub inside : sectorNo (active .sector) < sectorsOf g
+  pub told : active ≡ activeAs (sectorNo (active .sector)) (viewAt (viewsIn g bytes) (sectorNo (active .sector)))
 
--- The status is that of any sectors with these outlines, where these of them are working and unfinished. Free: the status where
--- no views of this many sectors have these outlines, the one unfinished sector being open.
-pub record Decides (g : Geometry) (sectors : List Summary) (working unfinished : List ℕ) (r : Status) : Type 0 where
-  pub status : (views : List View) → length views ≡ sectorsOf g → Outlines views sectors
-      → ((u : ℕ) → unfinished ≡ u ∷ [] → viewAt views u .closed ≡ false)
-      → r ≡ statusAs (stateBy views working unfinished)
+-- the two classes that have a mask
+abbrev pub isWorkingClass : Class → Bool
+isWorkingClass class.Closed = false
+isWorkingClass class.Working = true
+isWorkingClass class.Unfinished = false
+isWorkingClass class.NoLead = false
 
--- The survey of an image: its state; and the outlines of its sectors, if all leads are right. Free: every outline where a lead is
--- wrong.
-pub record Surveys (g : Geometry) (bytes : List ℕ) (r : Survey) : Type 0 where
-  pub status : r .status ≡ statusAs (stateOf (viewsIn g bytes))
-  pub sectors : all (λ (v : View). v .led) (viewsIn g bytes) ≡ true → Outlines (viewsIn g bytes) (r .sectors)
+abbrev pub isUnfinishedClass : Class → Bool
+isUnfinishedClass class.Closed = false
+isUnfinishedClass class.Working = false
+isUnfinishedClass class.Unfinished = true
+isUnfinishedClass class.NoLead = false
+
+-- the flags with that of sector s set, where it belongs in the class
+unfoldable pub marked : Bool → (s : ℕ) → List Bool → List Bool
+marked belongs s flags = if belongs then set flags s true else flags
 
 -- what stands where no entry is
 abbrev pub noEntry : Entry

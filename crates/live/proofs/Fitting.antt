@@ -1,4 +1,4 @@
--- The least number of turns under way: by the open sector's summary, then by one sector after the other behind the spare.
+-- The least number of turns under way: by the open sector's entries, then by one sector after the other behind the spare.
 -- Assumes nothing.
 use mathlib.Core.Path.{_≡_, sym, ap, subst, _∙_}
 use mathlib.Core.List.{List}
@@ -10,17 +10,13 @@ use native.Mathlib.Omega.{arith}
 use lib.ListN.{length, getD}
 use Rattle.rules.specs.Meaning.{atRest, viewAt, next, ringSector, counting, liveIn, needsOf}
 use Rattle.rules.specs.Stores.{leastTurns}
-use Rattle.rules.proofs.Blocks.Counting.{needs-all}
 use Rattle.rules.proofs.Ring.Order.{next-lt}
 use Rattle.rules.proofs.Ring.Newest.{ring-first, ring-up, ring-other}
 use Rattle.rules.proofs.Ring.Fits.{openNeeds, length-counting, needs-after, least-turns, no-turns}
 use Rattle.layout.specs.declared.Geometry.{Geometry}
 use Rattle.layout.specs.Geometry.{blocksOf, sectorsOf, Backs}
-use Rattle.sector.proofs.Laws.{Bounded}
-use Rattle.image.specs.declared.Summary.{Summary}
-use Rattle.image.specs.Answer.{summaryAs, noSummary, viewsIn, Summarizes}
+use Rattle.image.specs.Answer.{viewsIn}
 use Rattle.image.proofs.Sectors.{views-count}
-use Rattle.image.proofs.Laws.{summary-bounded}
 use Rattle.live.proofs.LiveNeeds.{needs-few}
 use Rattle.live.proofs.FitLaws.{fits-open}
 
@@ -38,35 +34,20 @@ module _ (g : Geometry) (bytes : List ℕ) (backs : Backs g bytes) (w : ℕ) (he
   working : w < length (viewsIn g bytes)
   working = omega (arith, views-count g bytes)
 
-  -- ---- with no turn
-
-  module _ {sectors : List Summary} (noted : Summarizes (viewsIn g bytes) sectors) where
-    summarized : getD sectors w noSummary ≡ summaryAs (viewAt (viewsIn g bytes) w)
-    summarized = noted .each w working
-
-    -- what the summary notes is small
-    pub noted-small : Bounded (blocksOf g) (getD sectors w noSummary .scan)
-    noted-small = rw summarized (summary-bounded g bytes w here (backs .sound))
-
-    noted-needs : getD sectors w noSummary .scan .needs ≡ needsOf (viewAt (viewsIn g bytes) w .entries)
-    noted-needs = ap (λ (x : Summary). x .scan .needs) summarized ∙ needs-all (viewAt (viewsIn g bytes) w .entries)
-
-    pub fits-now : (need limit : ℕ) → getD sectors w noSummary .scan .needs + need ≤ limit → leastTurns need limit w (viewsIn g bytes) ≡ some 0
-    fits-now need limit room = fits-open need limit w (viewsIn g bytes) (omega (arith, noted-needs))
-
-    pub fitting-start : (need limit : ℕ) → limit < getD sectors w noSummary .scan .needs + need → {s : ℕ} → s ≡ next (sectorsOf g) w
-        → Fitting need limit g bytes w 1 s
-    fitting-start need limit full {s} spare =
-        record {
-          from = omega arith;
-          inside = rw spare spare-inside;
-          at = λ h. ap (next (sectorsOf g)) spare ∙ sym (ring-first (sectorsOf g) (next (sectorsOf g) w) spare-inside);
-          above = first;
-        }
-      where
-        first : (i : ℕ) → i < 1 → limit < getD (openNeeds w (viewsIn g bytes)) i 0 + need
-        first zero b = omega (arith, noted-needs)
-        first (suc i) b = absurd (omega arith)
+  -- with none it does not fit
+  pub fitting-start : (need limit : ℕ) → limit < needsOf (viewAt (viewsIn g bytes) w .entries) + need → {s : ℕ} → s ≡ next (sectorsOf g) w
+      → Fitting need limit g bytes w 1 s
+  fitting-start need limit full {s} spare =
+      record {
+        from = omega arith;
+        inside = rw spare spare-inside;
+        at = λ h. ap (next (sectorsOf g)) spare ∙ sym (ring-first (sectorsOf g) (next (sectorsOf g) w) spare-inside);
+        above = first;
+      }
+    where
+      first : (i : ℕ) → i < 1 → limit < getD (openNeeds w (viewsIn g bytes)) i 0 + need
+      first zero b = full
+      first (suc i) b = absurd (omega arith)
 
   -- ---- with one turn more
 

@@ -1,4 +1,5 @@
 -- What callers learn of live values and of the room for an entry, and what the proofs of the functions share.
+pub mod Counting
 pub mod LiveLaws
 pub mod RenewedLaws
 pub mod RenewedMarks

@@ -1,4 +1,5 @@
 // The live values of a sector: which of its entries they are, and what they need.
+pub mod counts;
 pub mod fit;
 mod renewed;
 
@@ -14,10 +15,10 @@ ghost use Rattle.layout.specs.Numbers.{sectorNo};
 ghost use Rattle.layout.specs.Geometry.{blocksOf, sectorsOf, Backs};
 ghost use Rattle.mask.specs.Flags.{padded};
 ghost use Rattle.mask.specs.Marks.{maxMarks, marksOf};
-ghost use Rattle.image.specs.Answer.{noEntry, viewsIn, Summarizes};
+ghost use Rattle.image.specs.Answer.{noEntry, viewsIn};
+ghost use Rattle.live.specs.Counts.{Counts};
 ghost use Rattle.live.specs.Live.{liveFlagsIn};
 use entry::look;
-use image::Summary;
 use image::entries;
 use layout::Geometry;
 use layout::Sector;
@@ -55,20 +56,20 @@ fn is_live(image: &[u8], g: Geometry, s: Sector, n: usize, renewed: Marks) -> bo
 pub fn marks(
     image: &[u8],
     g: Geometry,
-    sectors: [Summary; Geometry::MAX_SECTORS],
+    counts: [u16; Geometry::MAX_SECTORS],
     w: Sector,
     s: Sector,
 ) -> Marks
     requires { ⌜ Backs g (now image) ⌝ }
-    requires { ⌜ Summarizes (viewsIn g (now image)) sectors ⌝ }
+    requires { ⌜ Counts (viewsIn g (now image)) counts ⌝ }
     requires { ⌜ sectorNo w < sectorsOf g ⌝ }
     requires { ⌜ sectorNo s < sectorsOf g ⌝ }
     requires { ⌜ (sectorNo s ≡ next (sectorsOf g) (sectorNo w) → ⊥) ⌝ }
     ensures { λ r. ⌜ marksOf r ≡ padded maxMarks (liveFlagsIn (next (sectorsOf g) (sectorNo w)) (sectorNo s) (viewsIn g (now (image .entry)))) ⌝ }
 {
-    let renewed = renewed::marks(image, g, sectors, w, s);
+    let renewed = renewed::marks(image, g, counts, w, s);
     let number = s.number();
-    let entries = sectors[number].entries;
+    let entries = counts[number] as usize;
     let mut live = Marks::none();
     let mut n = 0;
     while n < entries {
@@ -84,20 +85,20 @@ pub fn marks(
 pub fn needs(
     image: &[u8],
     g: Geometry,
-    sectors: [Summary; Geometry::MAX_SECTORS],
+    counts: [u16; Geometry::MAX_SECTORS],
     w: Sector,
     s: Sector,
 ) -> usize
     requires { ⌜ Backs g (now image) ⌝ }
-    requires { ⌜ Summarizes (viewsIn g (now image)) sectors ⌝ }
+    requires { ⌜ Counts (viewsIn g (now image)) counts ⌝ }
     requires { ⌜ sectorNo w < sectorsOf g ⌝ }
     requires { ⌜ sectorNo s < sectorsOf g ⌝ }
     requires { ⌜ (sectorNo s ≡ next (sectorsOf g) (sectorNo w) → ⊥) ⌝ }
     ensures { λ r. ⌜ r ≡ needsOf (liveIn (next (sectorsOf g) (sectorNo w)) (sectorNo s) (viewsIn g (now (image .entry)))) ⌝ }
 {
-    let live = marks(image, g, sectors, w, s);
+    let live = marks(image, g, counts, w, s);
     let number = s.number();
-    let count = sectors[number].entries;
+    let count = counts[number] as usize;
     let mut sum = 0;
     let mut i = 0;
     while i < count {

@@ -10,12 +10,12 @@ ghost use Rattle.layout.specs.Numbers.{sectorNo};
 ghost use Rattle.layout.specs.Geometry.{sectorsOf, Backs};
 ghost use Rattle.mask.specs.Flags.{padded};
 ghost use Rattle.mask.specs.Marks.{maxMarks, marksOf};
-ghost use Rattle.image.specs.Answer.{noEntry, viewsIn, Summarizes};
+ghost use Rattle.image.specs.Answer.{noEntry, viewsIn};
 ghost use Rattle.search.specs.Search.{hitAs};
 ghost use Rattle.index.specs.Index.{Indexes};
+ghost use Rattle.live.specs.Counts.{Counts};
 ghost use Rattle.live.specs.Live.{renewedFlags, renewedFlagsIn, renewedBy};
 use entry::look;
-use image::Summary;
 use image::entries;
 use image::ring;
 use layout::Geometry;
@@ -115,7 +115,7 @@ fn renewed_by_sector(
 fn renewed_by_newer(
     image: &[u8],
     g: Geometry,
-    sectors: [Summary; Geometry::MAX_SECTORS],
+    counts: [u16; Geometry::MAX_SECTORS],
     w: Sector,
     s: Sector,
     count: usize,
@@ -124,7 +124,7 @@ fn renewed_by_newer(
     within: Marks,
 ) -> Marks
     requires { ⌜ Backs g (now image) ⌝ }
-    requires { ⌜ Summarizes (viewsIn g (now image)) sectors ⌝ }
+    requires { ⌜ Counts (viewsIn g (now image)) counts ⌝ }
     requires { ⌜ sectorNo w < sectorsOf g ⌝ }
     requires { ⌜ sectorNo s < sectorsOf g ⌝ }
     requires { ⌜ (sectorNo s ≡ next (sectorsOf g) (sectorNo w) → ⊥) ⌝ }
@@ -138,7 +138,7 @@ fn renewed_by_newer(
     let mut t = ring::next_sector(g, s);
     while t.number() != spare {
         let number = t.number();
-        let entries = sectors[number].entries;
+        let entries = counts[number] as usize;
         renewed = renewed_by_sector(image, g, s, count, heads, links, t, entries, renewed);
         t = ring::next_sector(g, t);
     }
@@ -149,21 +149,21 @@ fn renewed_by_newer(
 pub fn marks(
     image: &[u8],
     g: Geometry,
-    sectors: [Summary; Geometry::MAX_SECTORS],
+    counts: [u16; Geometry::MAX_SECTORS],
     w: Sector,
     s: Sector,
 ) -> Marks
     requires { ⌜ Backs g (now image) ⌝ }
-    requires { ⌜ Summarizes (viewsIn g (now image)) sectors ⌝ }
+    requires { ⌜ Counts (viewsIn g (now image)) counts ⌝ }
     requires { ⌜ sectorNo w < sectorsOf g ⌝ }
     requires { ⌜ sectorNo s < sectorsOf g ⌝ }
     requires { ⌜ (sectorNo s ≡ next (sectorsOf g) (sectorNo w) → ⊥) ⌝ }
     ensures { λ r. ⌜ marksOf r ≡ padded maxMarks (renewedFlagsIn (next (sectorsOf g) (sectorNo w)) (sectorNo s) (viewsIn g (now (image .entry)))) ⌝ }
 {
     let number = s.number();
-    let count = sectors[number].entries;
+    let count = counts[number] as usize;
     let mut heads = [0u16; index::BUCKETS];
     let mut links = [0u16; index::LINKS];
     let within = renewed_within(image, g, s, count, &mut heads, &mut links);
-    renewed_by_newer(image, g, sectors, w, s, count, &heads, &links, within)
+    renewed_by_newer(image, g, counts, w, s, count, &heads, &links, within)
 }

@@ -1,10 +1,6 @@
 // Closes a sector: it takes no more entries.
-ghost use mathlib.Core.Path.{_≡_};
-ghost use mathlib.Core.List.{[]};
 ghost use Prim.Native.Nat.{_<_};
-ghost use lib.ListN.{getD};
 ghost use Rattle.rules.specs.Ground.{imageOf};
-ghost use Rattle.rules.specs.Reading.{viewOf};
 ghost use Rattle.rules.specs.Stores.{closeSector};
 ghost use Rattle.layout.specs.Numbers.{sectorNo};
 ghost use Rattle.layout.specs.Geometry.{blocksOf, sectorsOf, Backs};
@@ -16,13 +12,12 @@ use layout::Block;
 use layout::Geometry;
 use layout::Sector;
 
-// `cycle` is the sector's cycle.
-pub fn close(image: &mut [u8], g: Geometry, s: Sector, cycle: u8, budget: Budget) -> Budget
+pub fn close(image: &mut [u8], g: Geometry, s: Sector, budget: Budget) -> Budget
     requires { ⌜ Backs g (now image) ⌝ }
     requires { ⌜ sectorNo s < sectorsOf g ⌝ }
-    requires { ⌜ cycle ≡ viewOf (blocksOf g) (getD (imageOf (blocksOf g) (sectorsOf g) (now image)) (sectorNo s) []) .cycle ⌝ }
     ensures { λ r. ⌜ Did g (now (image .entry)) (closeSector (blocksOf g) (sectorNo s) (imageOf (blocksOf g) (sectorsOf g) (now (image .entry)))) budget (now (image .exit)) r ⌝ }
 {
+    let cycle = sector::cycle_at(image, g, s);
     let at = Block::new(g.blocks() - 2);
     put(image, g, s, at, Kind::Close, encode::close(cycle), budget)
 }

@@ -1,12 +1,9 @@
 // Reopens a sector: its next cycle makes everything in it old, so that only blocks that would read under the new cycle are
 // blanked before the lead.
 ghost use mathlib.Core.Path.{_≡_};
-ghost use mathlib.Core.List.{[]};
 ghost use Prim.Native.Nat.{_-_, _<_};
-ghost use lib.ListN.{getD};
 ghost use Rattle.rules.specs.Ground.{imageOf, blockAt};
 ghost use Rattle.rules.specs.Look as rule;
-ghost use Rattle.rules.specs.Reading.{viewOf};
 ghost use Rattle.rules.specs.Stores as stores;
 ghost use Rattle.layout.specs.Numbers.{sectorNo};
 ghost use Rattle.layout.specs.Geometry.{blocksOf, sectorsOf, Backs};
@@ -24,7 +21,7 @@ use layout::Geometry;
 use layout::Sector;
 
 // The cycle after this one, 255 going to 0.
-pub fn next_cycle(cycle: u8) -> u8
+fn next_cycle(cycle: u8) -> u8
     ensures { λ r. ⌜ r ≡ stores.nextCycle cycle ⌝ }
 {
     if cycle == 255 {
@@ -70,15 +67,13 @@ fn blank_stale(image: &mut [u8], g: Geometry, s: Sector, cycle: u8, budget: Budg
     put_blank_if(image, g, s, Block::new(blocks - 3), begun, left)
 }
 
-// `cycle` is the sector's present cycle.
-pub fn reopen(image: &mut [u8], g: Geometry, s: Sector, cycle: u8, budget: Budget) -> Budget
+pub fn reopen(image: &mut [u8], g: Geometry, s: Sector, budget: Budget) -> Budget
     requires { ⌜ Backs g (now image) ⌝ }
     requires { ⌜ sectorNo s < sectorsOf g ⌝ }
-    requires { ⌜ cycle ≡ viewOf (blocksOf g) (getD (imageOf (blocksOf g) (sectorsOf g) (now image)) (sectorNo s) []) .cycle ⌝ }
     requires { ⌜ Consistent budget ⌝ }
     ensures { λ r. ⌜ Did g (now (image .entry)) (stores.reopen (blocksOf g) (sectorNo s) (imageOf (blocksOf g) (sectorsOf g) (now (image .entry)))) budget (now (image .exit)) r ⌝ }
 {
-    let next = next_cycle(cycle);
+    let next = next_cycle(sector::cycle_at(image, g, s));
     let blanked = blank_stale(image, g, s, next, budget);
     if blanked.cut {
         return blanked;

@@ -9,14 +9,12 @@ ghost use Rattle.rules.specs.Reading.{viewOf};
 ghost use Rattle.rules.specs.Meaning.{viewAt, next};
 ghost use Rattle.layout.specs.Numbers.{sectorNo};
 ghost use Rattle.layout.specs.Geometry.{blocksOf, sectorsOf, Sound, Backs};
-ghost use Rattle.image.specs.Answer.{outlineAs, viewsIn, Outlines};
+ghost use Rattle.image.specs.Answer.{viewsIn};
 ghost use Rattle.search.specs.Search.{lastNamed, seek, hitAs, newestAs};
 ghost use Rattle.search.specs.Value.{foundIn, foundAs};
 use entry::SMALL;
 use entry::look;
-use image::Summary;
 use image::entries;
-use image::outline;
 use image::ring;
 use layout::Block;
 use layout::Geometry;
@@ -66,28 +64,22 @@ fn newest_in(sector: &[u8], g: Geometry, entries: usize, id: u32) -> Hit
     Hit::Nothing
 }
 
-// The same in sector s of an image, by its outline: the entries of a closed sector are read only now.
-fn newest_at(image: &[u8], g: Geometry, s: Sector, outline: Summary, id: u32) -> Hit
+// The same in sector s of an image, whose entries are read for it.
+fn newest_at(image: &[u8], g: Geometry, s: Sector, id: u32) -> Hit
     requires { ⌜ Backs g (now image) ⌝ }
     requires { ⌜ sectorNo s < sectorsOf g ⌝ }
-    requires { ⌜ outline ≡ outlineAs (viewAt (viewsIn g (now image)) (sectorNo s)) ⌝ }
     requires { ⌜ (id ≡ reservedId → ⊥) ⌝ }
     ensures { λ r. ⌜ r ≡ hitAs (lastNamed id (viewAt (viewsIn g (now (image .entry))) (sectorNo s) .entries)) ⌝ }
 {
-    let summary = outline::sector_summary(image, g, s, outline);
-    newest_in(layout::sector_bytes(image, g, s), g, summary.entries, id)
+    let cycle = sector::cycle_at(image, g, s);
+    let bytes = layout::sector_bytes(image, g, s);
+    let entries = sector::take_entries(bytes, g, cycle);
+    newest_in(bytes, g, entries.count, id)
 }
 
 // All sectors but the one after w, from w back round the ring: at rest w is the working one, and the spare is left out.
-fn newest_entry(
-    image: &[u8],
-    g: Geometry,
-    outlines: [Summary; Geometry::MAX_SECTORS],
-    w: Sector,
-    id: u32,
-) -> Newest
+fn newest_entry(image: &[u8], g: Geometry, w: Sector, id: u32) -> Newest
     requires { ⌜ Backs g (now image) ⌝ }
-    requires { ⌜ Outlines (viewsIn g (now image)) outlines ⌝ }
     requires { ⌜ sectorNo w < sectorsOf g ⌝ }
     requires { ⌜ (id ≡ reservedId → ⊥) ⌝ }
     ensures { λ r. ⌜ r ≡ newestAs (seek id (sectorsOf g) (next (sectorsOf g) (sectorNo w)) (sectorsOf g - 1) (viewsIn g (now (image .entry)))) ⌝ }
@@ -95,8 +87,7 @@ fn newest_entry(
     let mut left = g.sectors() - 1;
     let mut s = w;
     while left > 0 {
-        let number = s.number();
-        let hit = newest_at(image, g, s, outlines[number], id);
+        let hit = newest_at(image, g, s, id);
         if let Hit::At(n) = hit {
             return Newest::Entry(s, n);
         }
@@ -132,20 +123,13 @@ fn value_at(image: &[u8], g: Geometry, s: Sector, n: usize) -> Found
 }
 
 // At rest: the value that the newest entry of an ID tells, if it tells one. A deletion ends the search.
-pub fn find(
-    image: &[u8],
-    g: Geometry,
-    outlines: [Summary; Geometry::MAX_SECTORS],
-    w: Sector,
-    id: u32,
-) -> Found
+pub fn find(image: &[u8], g: Geometry, w: Sector, id: u32) -> Found
     requires { ⌜ Backs g (now image) ⌝ }
-    requires { ⌜ Outlines (viewsIn g (now image)) outlines ⌝ }
     requires { ⌜ sectorNo w < sectorsOf g ⌝ }
     requires { ⌜ (id ≡ reservedId → ⊥) ⌝ }
     ensures { λ r. ⌜ r ≡ foundAs (blocksOf g) (imageOf (blocksOf g) (sectorsOf g) (now (image .entry))) (seek id (sectorsOf g) (next (sectorsOf g) (sectorNo w)) (sectorsOf g - 1) (viewsIn g (now (image .entry)))) ⌝ }
 {
-    let Newest::Entry(s, n) = newest_entry(image, g, outlines, w, id) else {
+    let Newest::Entry(s, n) = newest_entry(image, g, w, id) else {
         return Found::Nothing;
     };
     value_at(image, g, s, n)

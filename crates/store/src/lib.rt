@@ -8,9 +8,10 @@ ghost use Rattle.store.specs.State.{openAs, begunAs};
 use answer::Outcome;
 use answer::Refusal;
 use answer::Reply;
+use entry::Head;
 use entry::look;
 use image::Status;
-use image::ring;
+use image::survey;
 use layout::Geometry;
 use layout::Sector;
 use layout::Sizes;
@@ -58,12 +59,11 @@ pub fn mount(image: &mut [u8], sector_size: usize, count: usize, allowance: u32)
     let Sizes::Legal(g) = Geometry::new(sector_size, count, image.len()) else {
         return Outcome::refused(Refusal::Geometry);
     };
-    let survey = ring::survey(image, g);
-    let status = survey.status;
+    let status = survey::survey(image, g);
     let Begun::Turns(turns) = mount_turns(status) else {
         return Outcome::refused(Refusal::NoStore);
     };
-    let budget = turn::mount::mount(image, g, survey, Budget::new(allowance));
+    let budget = turn::mount::mount(image, g, status, Budget::new(allowance));
     Outcome::ended(allowance, budget, turns)
 }
 
@@ -91,11 +91,8 @@ pub fn read(image: &[u8], sector_size: usize, count: usize, id: u32, buffer: &mu
     if id == Geometry::RESERVED_ID {
         return Reply::Refused(Refusal::Reserved);
     }
-    let survey = ring::survey(image, g);
-    let status = survey.status;
-    let outlines = survey.sectors;
-    match open_sector(status) {
-        Open::Working(w) => at_rest::read(image, g, outlines, w, id, buffer),
+    match open_sector(survey::survey(image, g)) {
+        Open::Working(w) => at_rest::read(image, g, w, id, buffer),
         Open::Refused(refusal) => Reply::Refused(refusal),
     }
 }
@@ -121,15 +118,13 @@ pub fn write(
     if value.len() == 0 {
         return Outcome::refused(Refusal::Empty);
     }
+    let head = Head::Value(id, value.len());
     let need = 1 + look::data_blocks(value.len());
     if g.value_limit() < need {
         return Outcome::refused(Refusal::TooLong);
     }
-    let survey = ring::survey(image, g);
-    let status = survey.status;
-    let outlines = survey.sectors;
-    match open_sector(status) {
-        Open::Working(w) => at_rest::write(image, g, outlines, w, id, value, need, allowance),
+    match open_sector(survey::survey(image, g)) {
+        Open::Working(w) => change::make(image, g, w, head, value, allowance),
         Open::Refused(refusal) => Outcome::refused(refusal),
     }
 }
@@ -150,11 +145,8 @@ pub fn delete(
     if id == Geometry::RESERVED_ID {
         return Outcome::refused(Refusal::Reserved);
     }
-    let survey = ring::survey(image, g);
-    let status = survey.status;
-    let outlines = survey.sectors;
-    match open_sector(status) {
-        Open::Working(w) => at_rest::delete(image, g, outlines, w, id, allowance),
+    match open_sector(survey::survey(image, g)) {
+        Open::Working(w) => at_rest::delete(image, g, w, id, allowance),
         Open::Refused(refusal) => Outcome::refused(refusal),
     }
 }

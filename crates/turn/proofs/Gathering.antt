@@ -23,8 +23,8 @@ use Rattle.rules.proofs.Crash.Turning.{within-value}
 use Rattle.layout.specs.declared.Geometry.{Geometry}
 use Rattle.layout.specs.Geometry.{blocksOf, sectorsOf, Backs}
 use Rattle.entry.specs.Answer.{scanOf}
-use Rattle.image.specs.declared.Summary.{Summary}
-use Rattle.image.specs.Answer.{summaryAs, viewsIn}
+use Rattle.image.specs.declared.active.Active.{Active}
+use Rattle.image.specs.Answer.{activeAs, viewsIn}
 use Rattle.image.specs.Answer.{noEntry}
 use Rattle.live.specs.Live.{liveFlagsIn}
 use Rattle.image.proofs.Laws.{entries-counted}
@@ -34,7 +34,7 @@ use Rattle.log.specs.declared.Budget.{Budget}
 use Rattle.log.specs.Budget.{Did, Consistent}
 use Rattle.append.specs.Append.{withEntry}
 use Rattle.copying.specs.Copy.{entryIn}
-use Rattle.turn.specs.Copies.{Gathered}
+use Rattle.turn.specs.Turn.{Gathered}
 use Rattle.log.proofs.Laws.{did-none, did-backs, did-consistent, did-whole, did-and-then, did-and-then-cut}
 use Rattle.append.proofs.Appending.{blocksIn, within-done}
 use Rattle.append.proofs.AfterAppend.{with-entry}
@@ -45,14 +45,14 @@ abbrev pub liveFrom : Geometry → List ℕ → (from to n : ℕ) → List Entry
 liveFrom g bytes from to n = chosen (drop n (liveFlagsIn to from (viewsIn g bytes))) (drop n (viewAt (viewsIn g bytes) from .entries))
 
 -- The live values before entry n are copied: whatever finishes the rest from here finishes the whole from the start.
-pub record Copying (g : Geometry) (from to : ℕ) (before : List ℕ) (first : Budget) (now : List ℕ) (budget : Budget) (summary : Summary) (n : ℕ) : Type 0 where
+pub record Copying (g : Geometry) (from to : ℕ) (before : List ℕ) (first : Budget) (now : List ℕ) (budget : Budget) (active : Active) (n : ℕ) : Type 0 where
   pub backs : Backs g now
   pub image : IsImage (blocksOf g) (sectorsOf g) (blocksIn g now)
   pub consistent : Consistent budget
-  pub told : summary ≡ summaryAs (viewAt (viewsIn g now) to)
-  pub undone : summary .scan .done ≡ false
+  pub told : active ≡ activeAs to (viewAt (viewsIn g now) to)
+  pub undone : active .scan .done ≡ false
   pub others : (t : ℕ) → (t ≡ to → ⊥) → viewAt (viewsIn g now) t ≡ viewAt (viewsIn g before) t
-  pub fits : summary .scan .needs + needsOf (liveFrom g before from to n) ≤ blocksOf g - keptFromValues
+  pub fits : active .scan .needs + needsOf (liveFrom g before from to n) ≤ blocksOf g - keptFromValues
   pub follows : (left : List ℕ) (r : Budget) → Did g now (appendAll (blocksOf g) to (liveFrom g before from to n) (blocksIn g now)) budget left r
       → Did g before (appendAll (blocksOf g) to (liveIn to from (viewsIn g before)) (blocksIn g before)) first left r
 
@@ -67,15 +67,15 @@ module _ (g : Geometry) (from to : ℕ) (before : List ℕ) (first : Budget) whe
   flags-count = length-live-in to from (viewsIn g before)
 
   -- nothing is copied yet
-  pub copying-none : {summary : Summary} → Backs g before → IsImage (blocksOf g) (sectorsOf g) (blocksIn g before) → from < sectorsOf g → Consistent first
-      → viewAt (viewsIn g before) to .entries ≡ [] → summary ≡ summaryAs (viewAt (viewsIn g before) to)
-      → Copying g from to before first before first summary 0
+  pub copying-none : {active : Active} → Backs g before → IsImage (blocksOf g) (sectorsOf g) (blocksIn g before) → from < sectorsOf g → Consistent first
+      → viewAt (viewsIn g before) to .entries ≡ [] → active ≡ activeAs to (viewAt (viewsIn g before) to)
+      → Copying g from to before first before first active 0
   unfolding afterAll start liveIn needsOf
-  copying-none {summary} k whole inside ok unused known =
-      let blank : summary .scan ≡ summaryAs (record { led = false; cycle = 0; closed = false; entries = [] }) .scan =
-      ap (λ (x : Summary). x .scan) known ∙ ap (λ (es : List Entry). summaryAs (record { led = false; cycle = 0; closed = false; entries = es }) .scan) unused in
+  copying-none {active} k whole inside ok unused known =
+      let blank : active .scan ≡ activeAs to (record { led = false; cycle = 0; closed = false; entries = [] }) .scan =
+      ap (λ (x : Active). x .scan) known ∙ ap (λ (es : List Entry). activeAs to (record { led = false; cycle = 0; closed = false; entries = es }) .scan) unused in
       let all : liveFrom g before from to 0 ≡ liveIn to from (viewsIn g before) = chosen-live-in to from (viewsIn g before) in
-      let few : summary .scan .needs ≡ 0 = ap (λ (x : _). x .needs) blank in
+      let few : active .scan .needs ≡ 0 = ap (λ (x : _). x .needs) blank in
       let sum : needsOf (liveFrom g before from to 0) ≡ needsOf (liveIn to from (viewsIn g before)) = ap needsOf all in
       record {
         backs = k;
@@ -94,7 +94,7 @@ module _ (g : Geometry) (from to : ℕ) (before : List ℕ) (first : Budget) whe
         follows = λ left r did. subst (λ (es : List Entry). Did g before (appendAll (blocksOf g) to es (blocksIn g before)) first left r) all did;
       }
 
-  module _ {now : List ℕ} {budget : Budget} {summary : Summary} {n : ℕ} (k : Copying g from to before first now budget summary n) where
+  module _ {now : List ℕ} {budget : Budget} {active : Active} {n : ℕ} (k : Copying g from to before first now budget active n) where
     -- all are copied
     pub copying-end : length (viewAt (viewsIn g before) from .entries) ≤ n
         → Did g before (appendAll (blocksOf g) to (liveIn to from (viewsIn g before)) (blocksIn g before)) first now budget
@@ -105,12 +105,12 @@ module _ (g : Geometry) (from to : ℕ) (before : List ℕ) (first : Budget) whe
         (sym (chosen-end (liveFlagsIn to from (viewsIn g before)) (viewAt (viewsIn g before) from .entries) flags-count n past))
         (did-none g now budget))
 
-    pub gathered : Gathered g to before now summary
-    gathered = record { told = k .told; room = within-done (blocksOf g) (scanOf (summary .scan)) (k .undone); others = k .others }
+    pub gathered : Gathered g to before now active
+    gathered = record { told = k .told; room = within-done (blocksOf g) (scanOf (active .scan)) (k .undone); others = k .others }
 
     module _ (here : n < length (viewAt (viewsIn g before) from .entries)) where
       -- entry n is no live value
-      pub copying-passed : getD (liveFlagsIn to from (viewsIn g before)) n false ≡ false → Copying g from to before first now budget summary (n + 1)
+      pub copying-passed : getD (liveFlagsIn to from (viewsIn g before)) n false ≡ false → Copying g from to before first now budget active (n + 1)
       copying-passed dead =
           let same : liveFrom g before from to n ≡ liveFrom g before from to (n + 1) =
           chosen-passed (liveFlagsIn to from (viewsIn g before)) (viewAt (viewsIn g before) from .entries) flags-count n noEntry here dead in
@@ -121,7 +121,7 @@ module _ (g : Geometry) (from to : ℕ) (before : List ℕ) (first : Budget) whe
             told = k .told;
             undone = k .undone;
             others = k .others;
-            fits = subst (λ (es : List Entry). summary .scan .needs + needsOf es ≤ blocksOf g - keptFromValues) same (k .fits);
+            fits = subst (λ (es : List Entry). active .scan .needs + needsOf es ≤ blocksOf g - keptFromValues) same (k .fits);
             follows = λ left r did.
                 k .follows left r (subst (λ (es : List Entry). Did g now (appendAll (blocksOf g) to es (blocksIn g now)) budget left r) (sym same) did);
           }
@@ -153,8 +153,8 @@ module _ (g : Geometry) (from to : ℕ) (before : List ℕ) (first : Budget) whe
         unfolding needsOf
         sum = ap needsOf next
 
-        pub live-within : isWithin (blocksOf g) (scanOf (summary .scan)) (entryIn g now from n .head) ≡ true
-        live-within = within-value (blocksOf g) (scanOf (summary .scan)) (entryIn g now from n .head) live-valued (omega (arith, k .fits, sum))
+        pub live-within : isWithin (blocksOf g) (scanOf (active .scan)) (entryIn g now from n .head) ≡ true
+        live-within = within-value (blocksOf g) (scanOf (active .scan)) (entryIn g now from n .head) live-valued (omega (arith, k .fits, sum))
 
         proper : IsProper (entryIn g now from n)
         proper = each-at (proper-view (k .backs .sound .blocks-from) (k .image) inside) n noEntry still-here
@@ -163,7 +163,7 @@ module _ (g : Geometry) (from to : ℕ) (before : List ℕ) (first : Budget) whe
             (changed (addedView (entryIn g now from n)) to (viewsIn g now))
         atomic =
             append-atomic (k .backs .sound .blocks-from) (k .backs .sound .blocks-to) (k .image) target proper
-            (subst (λ (x : Summary). isWithin (blocksOf g) (scanOf (x .scan)) (entryIn g now from n .head) ≡ true) (k .told) live-within)
+            (subst (λ (x : Active). isWithin (blocksOf g) (scanOf (x .scan)) (entryIn g now from n .head) ≡ true) (k .told) live-within)
 
         module _ {left : List ℕ} {r : Budget} (did : Did g now (append (blocksOf g) to (entryIn g now from n) (blocksIn g now)) budget left r) where
           -- its copy was cut
@@ -176,24 +176,24 @@ module _ (g : Geometry) (from to : ℕ) (before : List ℕ) (first : Budget) whe
               (k .consistent) did cut))
 
           -- it was made
-          pub copying-more : {sum′ : Summary} → r .cut ≡ false → sum′ ≡ withEntry summary (entryIn g now from n .head)
-              → Copying g from to before first left r sum′ (n + 1)
+          pub copying-more : {active′ : Active} → r .cut ≡ false → active′ ≡ withEntry active (entryIn g now from n .head)
+              → Copying g from to before first left r active′ (n + 1)
           unfolding appendAll after
-          copying-more {sum′} whole counted =
+          copying-more {active′} whole counted =
               let e : Entry = entryIn g now from n in
               let seen : viewsIn g left ≡ changed (addedView e) to (viewsIn g now) = atomic-views (k .backs) atomic did whole in
               let lies = atomic-lies (k .backs) atomic did in
-              let more : sum′ .scan .needs ≡ summary .scan .needs + needOf (e .head) = ap (λ (x : Summary). x .scan .needs) counted in
+              let more : active′ .scan .needs ≡ active .scan .needs + needOf (e .head) = ap (λ (x : Active). x .scan .needs) counted in
               record {
                 backs = did-backs did (k .backs);
                 image = subst (IsImage (blocksOf g) (sectorsOf g)) (sym (did-whole did (k .backs) lies whole)) (apply-image (atomic .inside) (k .image));
                 consistent = did-consistent did (k .consistent);
                 told =
                     counted
-                    ∙ ap (λ (x : Summary). withEntry x (e .head)) (k .told)
-                    ∙ with-entry e (viewAt (viewsIn g now) to)
-                    ∙ ap summaryAs (sym (changed-here (addedView e) to (viewsIn g now) (omega (arith, views-count g now))) ∙ ap (λ (vs : List View). viewAt vs to) (sym seen));
-                undone = ap (λ (x : Summary). x .scan .done) counted ∙ value-undone (scanOf (summary .scan)) (e .head) live-valued (k .undone);
+                    ∙ ap (λ (x : Active). withEntry x (e .head)) (k .told)
+                    ∙ with-entry to e (viewAt (viewsIn g now) to)
+                    ∙ ap (activeAs to) (sym (changed-here (addedView e) to (viewsIn g now) (omega (arith, views-count g now))) ∙ ap (λ (vs : List View). viewAt vs to) (sym seen));
+                undone = ap (λ (x : Active). x .scan .done) counted ∙ value-undone (scanOf (active .scan)) (e .head) live-valued (k .undone);
                 others = λ t other.
                     ap (λ (vs : List View). viewAt vs t) seen ∙ changed-other (addedView e) to (viewsIn g now) t other ∙ k .others t other;
                 fits = omega (arith, more, sum, k .fits);

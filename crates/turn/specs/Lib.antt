@@ -1,3 +1,2 @@
 -- What the contracts of `turn` cite, besides the definitions of `rules` and of the crates below.
-pub mod Copies
 pub mod Turn

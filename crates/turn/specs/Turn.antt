@@ -1,32 +1,39 @@
--- The steps of a turn, with what the sectors come to after them.
+-- What the steps of a turn leave where they were not cut.
 use mathlib.Core.Path.{_≡_}
 use mathlib.Core.Bool.{true, false}
-use mathlib.Core.List.{List}
+use mathlib.Core.List.{List, []}
 use mathlib.Core.Option.{Option, none, some}
 use Prim.Native.Nat.{ℕ}
-use Rattle.rules.specs.Look.{start}
-use Rattle.rules.specs.Meaning.{State}
-use Rattle.rules.specs.Stores.{Store, Plan, nothing, nextCycle, mount}
+use Rattle.rules.specs.Look.{done, isWithin}
+use Rattle.rules.specs.Meaning.{State, viewAt, next}
+use Rattle.rules.specs.Stores.{Store, Plan, nothing, mount}
 use Rattle.layout.specs.declared.Geometry.{Geometry}
-use Rattle.entry.specs.Answer.{scanAs}
-use Rattle.image.specs.declared.Summary.{Summary}
-use Rattle.image.specs.Answer.{viewsIn, Summarizes}
+use Rattle.layout.specs.Geometry.{blocksOf, sectorsOf}
+use Rattle.entry.specs.Answer.{scanOf}
+use Rattle.image.specs.declared.active.Active.{Active}
+use Rattle.image.specs.Answer.{viewsIn, activeAs}
 use Rattle.log.specs.declared.Budget.{Budget}
-use Rattle.turn.specs.declared.Turned.{Turned}
 use Rattle.log.specs.Budget.{Did}
+use Rattle.append.specs.declared.Appended.{Appended}
 
--- what a sector comes to after its close, and after it was reopened
-abbrev pub withClose : Summary → Summary
-withClose summary = record { cycle = summary .cycle; closed = true; entries = summary .entries; scan = summary .scan }
+-- Copies went to sector u: what is carried is that of u, which has no done yet; the other sectors show what they did.
+pub record Gathered (g : Geometry) (u : ℕ) (before after : List ℕ) (active : Active) : Type 0 where
+  pub told : active ≡ activeAs u (viewAt (viewsIn g after) u)
+  pub room : isWithin (blocksOf g) (scanOf (active .scan)) done ≡ true
+  pub others : (t : ℕ) → (t ≡ u → ⊥) → viewAt (viewsIn g after) t ≡ viewAt (viewsIn g before) t
 
-abbrev pub withReopening : Summary → Summary
-withReopening summary = record { cycle = nextCycle (summary .cycle); closed = false; entries = 0; scan = scanAs start }
+-- Made whole, a turn to sector u leaves this: what is carried is that of u, the sector after u has no entries, and every other
+-- sector has those that it had.
+pub record Moved (g : Geometry) (u : ℕ) (before after : List ℕ) (active : Active) : Type 0 where
+  pub told : active ≡ activeAs u (viewAt (viewsIn g after) u)
+  pub unused : viewAt (viewsIn g after) (next (sectorsOf g) u) .entries ≡ []
+  pub others : (t : ℕ) → (t ≡ u → ⊥) → (t ≡ next (sectorsOf g) u → ⊥) → viewAt (viewsIn g after) t .entries ≡ viewAt (viewsIn g before) t .entries
 
--- A step that is due these stores did those that the budget allows; made whole, the summaries are those of the sectors after it.
--- Free: every summary of a step that was cut.
-pub record Went (g : Geometry) (before : List ℕ) (stores : List Store) (budget : Budget) (after : List ℕ) (r : Turned) : Type 0 where
+-- A turn to sector u, or the rest of one, that is due these stores did those that the budget allows. Free: what is carried where it
+-- was cut.
+pub record Turned (g : Geometry) (u : ℕ) (before : List ℕ) (stores : List Store) (budget : Budget) (after : List ℕ) (r : Appended) : Type 0 where
   pub did : Did g before stores budget after (r .budget)
-  pub sectors : r .budget .cut ≡ false → Summarizes (viewsIn g after) (r .sectors)
+  pub moved : r .budget .cut ≡ false → Moved g u before after (r .active)
 
 -- the mount of what is a store, in its state; where there is none, nothing
 abbrev pub mountStores : (B S : ℕ) → Option State → Plan

@@ -29,7 +29,7 @@ held : (c : tie.After-known-told)
     Holds (k .args .image .now) (lookup (k .args .id) (history (atRest (k .args .w .0)) (viewsIn (k .args .g) (k .args .image .now)))) (placeNo (v .0)) (v .1 .0) (v .1 .1 .0)
 held c =
     let k = c .before .before .before .before .before .before in
-    found-value (k .args .g) (k .args .image .now) (k .pre .0) (k .args .id) (k .args .w .0) (k .pre .1 .1 .0) (sym (c .before .before .before .find .ensures) ∙ c .before .place .given .1)
+    found-value (k .args .g) (k .args .image .now) (k .pre .0) (k .args .id) (k .args .w .0) (k .pre .1 .0) (sym (c .before .before .before .find .ensures) ∙ c .before .place .given .1)
 
 -- its bytes, as they are lent
 part : (c : tie.After-number)
@@ -64,7 +64,7 @@ returns : tie.Need-returns
 unfolding replyAs refusalAs bufferAfter
 returns c =
     let k = c .before .before .before .before .before in
-    let absent = reply-absent (length (k .args .buffer .now)) (found-nothing (k .args .g) (k .args .image .now) (k .pre .0) (k .args .id) (k .args .w .0) (k .pre .1 .1 .0) (sym (c .before .before .find .ensures) ∙ c .enum-told .given .1)) in
+    let absent = reply-absent (length (k .args .buffer .now)) (found-nothing (k .args .g) (k .args .image .now) (k .pre .0) (k .args .id) (k .args .w .0) (k .pre .1 .0) (sym (c .before .before .find .ensures) ∙ c .enum-told .given .1)) in
     both replyAs (k .args .buffer .now) absent
 
 returns-2 : tie.Need-returns-2

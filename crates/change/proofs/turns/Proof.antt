@@ -1,10 +1,12 @@
 -- `turns`. The loop's invariant: whatever finishes the turns still due finishes them all (`Moving`).
 -- Assumes nothing.
-use mathlib.Core.Path.{_≡_, sym, ap, subst, _∙_}
+use mathlib.Core.Path.{_≡_, sym, subst, _∙_}
 use mathlib.Core.Bool.{false≢true}
 use Prim.Native.Nat.{ℕ, suc, _-_, _<_}
 use native.Mathlib.Omega.{arith}
-use Rattle.rules.specs.Meaning.{next}
+use lib.ListN.{length}
+use borrow.Author.Needs.{needs}
+use Rattle.rules.specs.Ground.{maxSectors}
 use Rattle.rules.specs.Stores.{moved}
 use Rattle.rules.proofs.Basics.Places.{at-each}
 use Rattle.rules.proofs.Blocks.OnBytes.{image-of-bytes}
@@ -12,25 +14,25 @@ use Rattle.layout.specs.Numbers.{sectorNo}
 use Rattle.layout.specs.Geometry.{blocksOf, sectorsOf}
 use Rattle.image.proofs.Laws.{rest-inside}
 use Rattle.log.proofs.Laws.{did-backs}
-use Rattle.change.proofs.Moving.{ready-spare, Turning, turning-none, turning-end, turning-cut, turning-more}
+use Rattle.change.proofs.Moving.{rests-spare, Turning, turning-none, turning-end, turning-cut, turning-more, turned-inside, turned-few}
 use Rattle.change.proofs.turns.Statement.{statement}
 use Rattle.change.proofs.turns.Tie as tie
 
 abbrev Inv-loop : tie.InvT-loop
-Inv-loop image₀ g count left₀ all₀ working₀ due₀ image left all working due =
-    Turning g (sectorNo working₀) count image₀ left₀ image left all (sectorNo working) due
+Inv-loop image₀ g turn-count left₀ working₀ all₀ due₀ image left working all due =
+    Turning g (sectorNo (working₀ .sector)) turn-count image₀ left₀ image left working all due
 
 abbrev μ-loop : tie.MeasureT-loop
-μ-loop image₀ g count left₀ all₀ working₀ due₀ image left all working due = due
+μ-loop image₀ g turn-count left₀ working₀ all₀ due₀ image left working all due = due
 
 -- in a turn at least one is due
 begun : (c : tie.In-loop Inv-loop μ-loop) → let k = c .before .before .before in
     let l = c .before .loop in
-    Turning (k .args .g) (sectorNo (k .args .w)) (k .args .turn-count) (k .args .image .now) (k .args .budget) (l .image) (l .left) (l .all) (sectorNo (l .working)) (suc (l .due - 1))
+    Turning (k .args .g) (sectorNo (k .args .active .sector)) (k .args .turn-count) (k .args .image .now) (k .args .budget) (l .image) (l .left) (l .working) (l .all) (suc (l .due - 1))
 begun c =
     let k = c .before .before .before in
     let l = c .before .loop in
-    subst (Turning (k .args .g) (sectorNo (k .args .w)) (k .args .turn-count) (k .args .image .now) (k .args .budget) (l .image) (l .left) (l .all) (sectorNo (l .working)))
+    subst (Turning (k .args .g) (sectorNo (k .args .active .sector)) (k .args .turn-count) (k .args .image .now) (k .args .budget) (l .image) (l .left) (l .working) (l .all))
     (omega (arith, c .loop-test .taken)) (l .inv)
 
 loop-holds : tie.Need-loop-holds Inv-loop μ-loop
@@ -38,36 +40,34 @@ loop-holds c =
     let k = c .before in
     let typed = at-each (λ b. b < 256) 0 (k .args .image .now) (λ i h. omega (arith, c .slice-known .given i)) in
     let whole = image-of-bytes (blocksOf (k .args .g)) (sectorsOf (k .args .g)) (k .args .image .now) typed (k .pre .0 .sized) in
-    turning-none (k .args .g) (sectorNo (k .args .w)) (k .args .turn-count) (k .args .image .now) (k .args .budget) (k .pre .0) whole (k .pre .1 .1) (k .pre .1 .0)
+    turning-none (k .args .g) (k .args .turn-count) (k .args .image .now) (k .args .budget) (k .pre .0) whole (k .pre .1 .1 .1) (k .pre .1 .0) (k .pre .1 .1 .0) (k .good .1 .1 .1 .0 .1 .0 .1)
 
 turn-requires : tie.Need-turn-requires Inv-loop μ-loop
 turn-requires c κs =
     let l = c .before .before .loop in
     let g = c .before .before .before .before .args .g in
     let i = l .inv in
-    (i .backs, (i .ready .summaries, (rest-inside g (l .image) (sectorNo (l .working)) (i .ready .rest), (ready-spare g (l .image) (sectorNo (l .working)) (i .ready), i .consistent))))
+    (i .backs, (i .counted, (rest-inside g (l .image) (sectorNo (l .working .sector)) (i .rests .rest), (rests-spare g (l .image) (sectorNo (l .working .sector)) (i .rests .rest), i .consistent))))
 
 same-length : tie.Need-same-length Inv-loop μ-loop
 same-length c =
     let t = c .before .before .before .before .before in
-    let l = t .before .before .before .loop in
-    let k = t .before .before .before .before .before in
-    did-backs (t .turn .ensures .did) (l .inv .backs) .sized ∙ sym (k .pre .0 .sized)
+    let k = c .before .before .before .before .before .before .before .before .before .before in
+    did-backs (t .turn .ensures .did) (c .before .before .before .before .before .before .before .before .loop .inv .backs) .sized ∙ sym (k .pre .0 .sized)
 
 returns : tie.Need-returns Inv-loop μ-loop
 returns c =
     let t = c .before .before .before .before .before in
-    let k = t .before .before .before .before .before in (
-      turning-cut (k .args .g) (sectorNo (k .args .w)) (k .args .turn-count) (k .args .image .now) (k .args .budget) (begun (t .before .before)) (t .turn .ensures) (c .if1 .taken),
+    let k = c .before .before .before .before .before .before .before .before .before .before in (
+      turning-cut (k .args .g) (k .args .turn-count) (k .args .image .now) (k .args .budget) (begun (c .before .before .before .before .before .before .before)) (t .turn .ensures) (c .if1 .taken),
       ((λ whole. absurd (false≢true (sym whole ∙ c .if1 .taken))), (λ whole. absurd (false≢true (sym whole ∙ c .if1 .taken)))),
     )
 
-next-sector-requires : tie.Need-next-sector-requires Inv-loop μ-loop
-next-sector-requires c κs =
+turned-requires : tie.Need-turned-requires Inv-loop μ-loop
+turned-requires c κs =
     let t = c .before .before .before .before .before in
-    let l = t .before .before .before .loop in
-    let k = t .before .before .before .before .before in
-    rest-inside (k .args .g) (l .image) (sectorNo (l .working)) (l .inv .ready .rest)
+    let k = c .before .before .before .before .before .before .before .before .before .before in
+    (turned-inside (k .args .g) (k .args .turn-count) (k .args .image .now) (k .args .budget) (begun (c .before .before .before .before .before .before .before)) (t .turn .ensures) (c .if1 .left), (k .pre .0 .sound .sectors-to, turned-few (k .args .g) (k .args .turn-count) (k .args .image .now) (k .args .budget) (begun (c .before .before .before .before .before .before .before)) (t .turn .ensures) (c .if1 .left)))
 
 sub-due : tie.Need-sub-due Inv-loop μ-loop
 sub-due c = omega (arith, c .before .before .before .before .before .before .before .before .loop-test .taken)
@@ -78,10 +78,8 @@ loop-less c = omega (arith, c .before .before .before .before .before .before .b
 loop-again : tie.Need-loop-again Inv-loop μ-loop
 loop-again c =
     let t = c .before .before .before .before .before .before in
-    let k = t .before .before .before .before .before in
-    subst (λ (s : ℕ). Turning (k .args .g) (sectorNo (k .args .w)) (k .args .turn-count) (k .args .image .now) (k .args .budget) (t .turn .last .0) (t .turn .result .budget) (t .turn .result .sectors) s (t .before .before .before .loop .due - 1))
-    (sym (c .next-sector .ensures))
-    (turning-more (k .args .g) (sectorNo (k .args .w)) (k .args .turn-count) (k .args .image .now) (k .args .budget) (begun (t .before .before)) (t .turn .ensures) (c .before .if1 .left))
+    let k = c .before .before .before .before .before .before .before .before .before .before .before in
+    turning-more (k .args .g) (k .args .turn-count) (k .args .image .now) (k .args .budget) (begun (c .before .before .before .before .before .before .before .before)) (t .turn .ensures) (c .before .if1 .left) (c .turned .ensures)
 
 same-length-2 : tie.Need-same-length-2 Inv-loop μ-loop
 same-length-2 c = c .before .loop .inv .backs .sized ∙ sym (c .before .before .before .pre .0 .sized)
@@ -92,9 +90,9 @@ returns-2 c =
     let l = c .before .loop in
     let k = c .before .before .before in
     let none : l .due ≡ 0 = omega (arith, c .loop-test .left) in
-    let ended = subst (Turning (k .args .g) (sectorNo (k .args .w)) (k .args .turn-count) (k .args .image .now) (k .args .budget) (l .image) (l .left) (l .all) (sectorNo (l .working))) none (l .inv) in (
-      turning-end (k .args .g) (sectorNo (k .args .w)) (k .args .turn-count) (k .args .image .now) (k .args .budget) ended,
-      ((λ whole. ended .ready), (λ whole. ended .onward)),
+    let ended = subst (Turning (k .args .g) (sectorNo (k .args .active .sector)) (k .args .turn-count) (k .args .image .now) (k .args .budget) (l .image) (l .left) (l .working) (l .all)) none (l .inv) in (
+      turning-end (k .args .g) (k .args .turn-count) (k .args .image .now) (k .args .budget) ended,
+      ((λ whole. ended .rests), (λ whole. ended .onward)),
     )
 
 pub turns-spec : {M : Type 1} → statement M
@@ -107,7 +105,7 @@ turns-spec =
     turn-requires
     same-length
     returns
-    next-sector-requires
+    turned-requires
     sub-due
     loop-less
     loop-again

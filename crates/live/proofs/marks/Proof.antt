@@ -15,9 +15,10 @@ use Rattle.layout.specs.Numbers.{sectorNo}
 use Rattle.mask.specs.Flags.{padded}
 use Rattle.mask.specs.Marks.{maxMarks, marksOf}
 use Rattle.mask.proofs.Padded.{padded-set, padded-kept, padded-at}
-use Rattle.image.specs.Answer.{noSummary, noEntry, viewsIn}
+use Rattle.image.specs.Answer.{noEntry, viewsIn}
 use Rattle.live.specs.Live.{liveFlagsIn, renewedFlagsIn}
-use Rattle.image.proofs.EntryBlocks.{entries-noted, entries-few}
+use Rattle.image.proofs.EntryBlocks.{entries-few}
+use Rattle.live.proofs.Counting.{entries-noted}
 use Rattle.live.proofs.LiveLaws.{length-live-in}
 use Rattle.live.proofs.LiveEntries.{entriesAt}
 use Rattle.live.proofs.RenewedLaws.{live-by-renewed}
@@ -38,19 +39,19 @@ low c = let k = c .before .before .before in omega (arith, c .number .ensures, k
 
 -- the entries that were counted are those of the sector, and there is a mark for each
 counted : (c : tie.After-number Inv-loop μ-loop) → let k = c .before .before .before in
-    getD (k .args .t3) (c .number .result) noSummary .entries ≡ length (entriesAt (k .args .g) (k .args .image .now) (k .args .s))
+    getD (k .args .t3) (c .number .result) 0 ≡ length (entriesAt (k .args .g) (k .args .image .now) (k .args .s))
 counted c =
     let k = c .before .before .before in
     rw (c .number .ensures) (entries-noted (k .args .g) (k .args .image .now) (sectorNo (k .args .s)) (k .pre .1 .1 .1 .0) (k .pre .1 .0))
 
 few : (c : tie.After-number Inv-loop μ-loop) → let k = c .before .before .before in
-    getD (k .args .t3) (c .number .result) noSummary .entries < maxMarks
+    getD (k .args .t3) (c .number .result) 0 < maxMarks
 few c =
     let k = c .before .before .before in
     omega (arith, counted c, entries-few (k .args .g) (k .args .image .now) (sectorNo (k .args .s)) (k .pre .1 .1 .1 .0) (k .pre .0 .sound))
 
 flags-count : (c : tie.After-number Inv-loop μ-loop) (u : ℕ) → let k = c .before .before .before in
-    length (liveFlagsIn u (sectorNo (k .args .s)) (viewsIn (k .args .g) (k .args .image .now))) ≡ getD (k .args .t3) (c .number .result) noSummary .entries
+    length (liveFlagsIn u (sectorNo (k .args .s)) (viewsIn (k .args .g) (k .args .image .now))) ≡ getD (k .args .t3) (c .number .result) 0
 flags-count c u = length-live-in u _ _ ∙ sym (counted c)
 
 marks-requires : tie.Need-marks-requires Inv-loop μ-loop
@@ -62,8 +63,11 @@ number-requires c κs = search needs
 mul-entries : tie.Need-mul-entries Inv-loop μ-loop
 mul-entries c = omega (arith, low c)
 
-element-copy-out-entries : tie.Need-element-copy-out-entries Inv-loop μ-loop
-element-copy-out-entries c = low c
+array-read-entries : tie.Need-array-read-entries Inv-loop μ-loop
+array-read-entries c = low c
+
+cast-entries : tie.Need-cast-entries Inv-loop μ-loop
+cast-entries c = omega (arith, few c)
 
 none-requires : tie.Need-none-requires Inv-loop μ-loop
 none-requires c κs = search needs
@@ -135,7 +139,8 @@ marks-spec =
     marks-requires
     number-requires
     mul-entries
-    element-copy-out-entries
+    array-read-entries
+    cast-entries
     none-requires
     loop-holds
     is-live-requires

@@ -14,9 +14,10 @@ use Rattle.layout.specs.Numbers.{sectorNo}
 use Rattle.mask.specs.Flags.{padded}
 use Rattle.mask.specs.Marks.{maxMarks, marksOf}
 use Rattle.mask.proofs.Padded.{padded-at}
-use Rattle.image.specs.Answer.{noSummary, viewsIn}
+use Rattle.image.specs.Answer.{viewsIn}
 use Rattle.live.specs.Live.{liveFlagsIn}
-use Rattle.image.proofs.EntryBlocks.{entry-low, entries-noted, entries-few}
+use Rattle.image.proofs.EntryBlocks.{entry-low, entries-few}
+use Rattle.live.proofs.Counting.{entries-noted}
 use Rattle.live.proofs.LiveNeeds.{needsFrom, needs-all, needs-here, needs-passed, needs-none, needs-few}
 use Rattle.live.proofs.needs.Statement.{statement}
 use Rattle.live.proofs.needs.Tie as tie
@@ -35,7 +36,7 @@ low : (c : tie.After-number Inv-loop μ-loop) → c .number .result < 64
 low c = let k = c .before .before .before in omega (arith, c .number .ensures, k .pre .1 .1 .1 .0, k .pre .0 .sound .sectors-to)
 
 counted : (c : tie.After-number Inv-loop μ-loop) → let k = c .before .before .before in
-    getD (k .args .t3) (c .number .result) noSummary .entries ≡ length (viewAt (viewsIn (k .args .g) (k .args .image .now)) (sectorNo (k .args .s)) .entries)
+    getD (k .args .t3) (c .number .result) 0 ≡ length (viewAt (viewsIn (k .args .g) (k .args .image .now)) (sectorNo (k .args .s)) .entries)
 counted c =
     let k = c .before .before .before in
     rw (c .number .ensures) (entries-noted (k .args .g) (k .args .image .now) (sectorNo (k .args .s)) (k .pre .1 .1 .1 .0) (k .pre .1 .0))
@@ -80,8 +81,13 @@ number-requires c κs = search needs
 mul-count : tie.Need-mul-count Inv-loop μ-loop
 mul-count c = omega (arith, low c)
 
-element-copy-out-count : tie.Need-element-copy-out-count Inv-loop μ-loop
-element-copy-out-count c = low c
+array-read-count : tie.Need-array-read-count Inv-loop μ-loop
+array-read-count c = low c
+
+cast-count : tie.Need-cast-count Inv-loop μ-loop
+cast-count c =
+    let k = c .before .before .before in
+    omega (arith, counted c, entries-few (k .args .g) (k .args .image .now) (sectorNo (k .args .s)) (k .pre .1 .1 .1 .0) (k .pre .0 .sound))
 
 loop-holds : tie.Need-loop-holds Inv-loop μ-loop
 loop-holds c =
@@ -143,7 +149,8 @@ needs-spec =
     marks-requires
     number-requires
     mul-count
-    element-copy-out-count
+    array-read-count
+    cast-count
     loop-holds
     has-requires
     value-need-requires

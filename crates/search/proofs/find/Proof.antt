@@ -40,7 +40,7 @@ returns c =
 value-at-requires : tie.Need-value-at-requires
 value-at-requires c κs =
     let k = c .before .before .before .before .before in
-    let stands = sought-stands (k .args .g) (k .args .image .now) (k .args .id) (k .args .w .0) (k .pre .1 .1 .0) _ (newest-at (sought k) (sym (c .before .before .before .newest-entry .ensures) ∙ c .before .s .given .1)) in
+    let stands = sought-stands (k .args .g) (k .args .image .now) (k .args .id) (k .args .w .0) (k .pre .1 .0) _ (newest-at (sought k) (sym (c .before .before .before .newest-entry .ensures) ∙ c .before .s .given .1)) in
     (k .pre .0, (omega (arith, stands .sector, views-count (k .args .g) (k .args .image .now)), stands .entry))
 
 returns-2 : tie.Need-returns-2

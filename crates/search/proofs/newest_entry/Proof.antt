@@ -1,35 +1,24 @@
 -- `search::newest_entry`: the invariant is the search under way, over the sectors that are left.
 -- Assumes nothing.
 use mathlib.Core.Path.{_≡_, sym, ap, _∙_}
-use Prim.Native.Nat.{_<_, _≤_}
 use native.Mathlib.Omega.{arith}
 use borrow.Author.Needs.{needs}
-use Rattle.rules.specs.Ground.{maxSectors}
 use Rattle.rules.specs.Meaning.{next}
 use Rattle.rules.proofs.Ring.Order.{next-lt}
 use Rattle.layout.specs.Numbers.{sectorNo}
 use Rattle.layout.specs.Geometry.{sectorsOf}
 use Rattle.image.specs.Answer.{viewsIn}
 use Rattle.search.specs.Search.{newestAs}
-use Rattle.image.proofs.Sectors.{views-count}
 use Rattle.search.proofs.Seeking.{Seeking, seeking-start, seeking-found, seeking-next, seeking-end, hit-at, hit-nothing}
 use Rattle.search.proofs.newest_entry.Statement.{statement}
 use Rattle.search.proofs.newest_entry.Tie as tie
 
 abbrev Inv-loop : tie.InvT-loop
-Inv-loop image g id sectors left₀ s₀ left s =
+Inv-loop image g id left₀ s₀ left s =
     Seeking id (sectorsOf g) (next (sectorsOf g) (sectorNo s₀)) (viewsIn g image) left (sectorNo s)
 
 abbrev μ-loop : tie.MeasureT-loop
-μ-loop image g id sectors left₀ s₀ left s = left
-
--- the sector that is searched is one that was surveyed
-low : (c : tie.After-number Inv-loop μ-loop)
-    → let k = c .before .before .before .before .before in
-    (c .number .result < sectorsOf (k .args .g)) × (sectorsOf (k .args .g) ≤ maxSectors)
-low c =
-    let k = c .before .before .before .before .before in
-    (rw (c .number .ensures) (c .before .before .loop .inv .inside), k .pre .0 .sound .sectors-to)
+μ-loop image g id left₀ s₀ left s = left
 
 sectors-requires : tie.Need-sectors-requires Inv-loop μ-loop
 sectors-requires c κs = search needs
@@ -40,30 +29,19 @@ sub-left c = search needs
 loop-holds : tie.Need-loop-holds Inv-loop μ-loop
 loop-holds c =
     let k = c .before .before in
-    rw (c .sectors .ensures) (seeking-start _ _ _ _ (k .pre .1 .1 .0) (k .pre .0 .sound .sectors-from))
-
-number-requires : tie.Need-number-requires Inv-loop μ-loop
-number-requires c κs = search needs
-
-mul-newest-at : tie.Need-mul-newest-at Inv-loop μ-loop
-mul-newest-at c = omega (arith, low c)
-
-array-copy-out-newest-at : tie.Need-array-copy-out-newest-at Inv-loop μ-loop
-array-copy-out-newest-at c = omega (arith, low c)
+    rw (c .sectors .ensures) (seeking-start _ _ _ _ (k .pre .1 .0) (k .pre .0 .sound .sectors-from))
 
 newest-at-requires : tie.Need-newest-at-requires Inv-loop μ-loop
 newest-at-requires c κs =
-    let k = c .before .before .before .before .before .before in
-    let inside = c .before .before .before .loop .inv .inside in
-    let noted = k .pre .1 .0 .each (c .before .before .before .loop .s .0) (omega (arith, views-count (k .args .g) (k .args .image .now), inside)) in
-    (k .pre .0, (inside, (rw (c .before .number .ensures) noted, k .pre .1 .1 .1)))
+    let k = c .before .before .before .before in
+    (k .pre .0, (c .before .loop .inv .inside, k .pre .1 .1))
 
 enum-known-hit : tie.Need-enum-known-hit Inv-loop μ-loop
 enum-known-hit c = search needs
 
 returns : tie.Need-returns Inv-loop μ-loop
 returns c =
-    let t = c .before .before .before .before .before .before in
+    let t = c .before .before .before .before in
     let named = hit-at _ (sym (c .before .before .before .newest-at .ensures) ∙ c .before .hit .given .1) in
     ap newestAs (sym (seeking-found (t .before .loop .inv) (t .loop-test .taken) named))
 
@@ -71,20 +49,20 @@ enum-told : tie.Need-enum-told Inv-loop μ-loop
 enum-told c = search needs
 
 previous-sector-requires : tie.Need-previous-sector-requires Inv-loop μ-loop
-previous-sector-requires c κs = c .before .before .before .before .before .before .loop .inv .inside
+previous-sector-requires c κs = c .before .before .before .before .loop .inv .inside
 
 sub-left-2 : tie.Need-sub-left-2 Inv-loop μ-loop
-sub-left-2 c = c .before .before .before .before .before .before .loop-test .taken
+sub-left-2 c = c .before .before .before .before .loop-test .taken
 
 loop-less : tie.Need-loop-less Inv-loop μ-loop
-loop-less c = omega (arith, c .before .before .before .before .before .before .loop-test .taken)
+loop-less c = omega (arith, c .before .before .before .before .loop-test .taken)
 
 loop-again : tie.Need-loop-again Inv-loop μ-loop
 loop-again c =
-    let t = c .before .before .before .before .before .before in
+    let t = c .before .before .before .before in
     let k = t .before .before .before .before in
     let other = hit-nothing _ (sym (c .before .before .before .newest-at .ensures) ∙ c .before .enum-told .given .1) in
-    seeking-next (t .before .loop .inv) (next-lt _ _ (k .pre .1 .1 .0)) (t .loop-test .taken) other (c .previous-sector .ensures)
+    seeking-next (t .before .loop .inv) (next-lt _ _ (k .pre .1 .0)) (t .loop-test .taken) other (c .previous-sector .ensures)
 
 returns-2 : tie.Need-returns-2 Inv-loop μ-loop
 returns-2 c =
@@ -100,9 +78,6 @@ newest-entry-spec =
     sectors-requires
     sub-left
     loop-holds
-    number-requires
-    mul-newest-at
-    array-copy-out-newest-at
     newest-at-requires
     enum-known-hit
     returns

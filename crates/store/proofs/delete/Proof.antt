@@ -10,7 +10,7 @@ use Rattle.layout.specs.Geometry.{sizesOf, Backs}
 use Rattle.layout.specs.Numbers.{sectorNo}
 use Rattle.layout.proofs.Laws.{legal-backs, from-sizes}
 use Rattle.image.specs.Answer.{viewsIn}
-use Rattle.image.proofs.Laws.{survey-state, survey-outlines}
+use Rattle.image.proofs.Laws.{survey-state}
 use Rattle.answer.specs.declared.Refusal.the-variants as refusal
 use Rattle.answer.specs.Answer.{refusalOf, Leaves}
 use Rattle.store.specs.State.{openAs}
@@ -31,11 +31,11 @@ backs : (l : tie.After-known-told) → Backs (l .before .g .given .0 .0) (l .bef
 backs l = legal-backs _ _ _ (l .before .g .given .0 .0) (legal l) (l .before .before .before .before .before .args .image .now) refl
 
 -- the state of the image, by the sector that is open or the refusal
-opened : (o : tie.After-open-sector) → let l = o .before .before .before .before .before in
+opened : (o : tie.After-open-sector) → let l = o .before .before .before .before in
     openAs (stateOf (viewsIn (l .before .g .given .0 .0) (l .before .before .before .before .before .args .image .now))) ≡ o .open-sector .result
-opened o = ap openAs (survey-state (o .before .before .survey .ensures)) ∙ sym (o .open-sector .ensures)
+opened o = ap openAs (survey-state _ _ (o .before .survey .ensures)) ∙ sym (o .open-sector .ensures)
 
-rest : (c : tie.After-w) → let l = c .before .before .before .before .before .before .before in
+rest : (c : tie.After-w) → let l = c .before .before .before .before .before .before in
     stateOf (viewsIn (l .before .g .given .0 .0) (l .before .before .before .before .before .args .image .now)) ≡ some (atRest (sectorNo (c .w .given .0 .0)))
 rest c = open-working _ (opened (c .before .before) ∙ c .w .given .1)
 
@@ -82,8 +82,7 @@ enum-known-w c = search needs
 delete-requires : tie.Need-delete-requires
 delete-requires c κs =
     let o = c .before .before .before .before in
-    let at-rest = rest (c .before .before) in
-    (backs (o .before .before .before .before .before), (record { outlines = survey-outlines (o .before .before .survey .ensures) at-rest; rest = at-rest }, o .before .before .before .before .if1 .left))
+    (backs (o .before .before .before .before), (rest (c .before .before), o .before .before .before .if1 .left))
 
 enum-known-refusal : tie.Need-enum-known-refusal
 enum-known-refusal c = search needs
@@ -96,7 +95,7 @@ same-length c = search needs
 
 returns-3 : tie.Need-returns-3
 returns-3 c =
-    let l = c .before .before .before .before .before .before .before .before .before .before .before .before in
+    let l = c .before .before .before .before .before .before .before .before .before .before .before in
     let a = l .before .before .before .before .before .args in
     let g = l .before .g .given .0 .0 in
     leaves-given g (a .sector-size) (from-sizes (a .sector-size) (a .count) _ g (legal l) .blocks)
@@ -108,12 +107,12 @@ same-length-2 c = search needs
 returns-4 : tie.Need-returns-4
 returns-4 c =
     let o = c .before .before .before .before in
-    let l = o .before .before .before .before .before in
+    let l = o .before .before .before .before in
     let a = l .before .before .before .before .before .args in
     let g = l .before .g .given .0 .0 in
     let due =
     delete-legal (a .sector-size) (a .count) (a .image .now) (a .id) g (legal l)
-    ∙ delete-unready g (a .image .now) (a .id) (o .before .before .before .before .if1 .left) (opened o ∙ c .before .before .refusal .given .1) in
+    ∙ delete-unready g (a .image .now) (a .id) (o .before .before .before .if1 .left) (opened o ∙ c .before .before .refusal .given .1) in
     subst (Leaves _ _ _ _ _) (sym (c .refused3 .ensures)) (leaves-refused (a .sector-size) (a .allowance) (a .image .now) _ due)
 
 pub delete-spec : {M : Type 1} → statement M

@@ -34,7 +34,7 @@ backs c =
 begins : (c : tie.After-mount-turns)
     → let l = c .before .before .before in
     begunAs (stateOf (viewsIn (l .before .g .given .0 .0) (l .before .before .before .before .before .args .image .now))) ≡ c .mount-turns .result
-begins c = ap begunAs (survey-state (c .before .survey .ensures)) ∙ sym (c .mount-turns .ensures)
+begins c = ap begunAs (survey-state _ _ (c .before .survey .ensures)) ∙ sym (c .mount-turns .ensures)
 
 new-requires : tie.Need-new-requires
 new-requires c κs = search needs
@@ -90,7 +90,7 @@ mount-requires c κs =
     let m = c .before .before .before .before .before in
     let l = m .before .before .before in
     let a = l .before .before .before .before .before .args in
-    (backs l, (m .before .survey .ensures, subst Consistent (sym (c .new2 .ensures)) (new-consistent (a .allowance))))
+    (backs l, (sym (survey-state _ _ (m .before .survey .ensures)), subst Consistent (sym (c .new2 .ensures)) (new-consistent (a .allowance))))
 
 ended-requires : tie.Need-ended-requires
 ended-requires c κs = left-within (rw (c .before .before .before .new2 .ensures) at (c .before .before .mount .ensures))

@@ -12,7 +12,7 @@ use Rattle.layout.specs.Geometry.{sizesOf, Backs}
 use Rattle.layout.specs.Numbers.{sectorNo}
 use Rattle.layout.proofs.Laws.{legal-backs}
 use Rattle.image.specs.Answer.{viewsIn}
-use Rattle.image.proofs.Laws.{survey-state, survey-outlines, rest-inside}
+use Rattle.image.proofs.Laws.{survey-state, rest-inside}
 use Rattle.answer.specs.Answer.{refusalOf, replyNumbersOf}
 use Rattle.store.specs.State.{openAs}
 use Rattle.store.proofs.Sizes.{open-working}
@@ -33,13 +33,13 @@ backs c = legal-backs _ _ _ (c .before .g .given .0 .0) (legal c) (c .before .be
 
 -- the state of the image, by the sector that is open or the refusal
 opened : (c : tie.After-open-sector)
-    → let l = c .before .before .before .before in
+    → let l = c .before .before .before in
     let a = l .before .before .before .before .before .before .args in
     openAs (stateOf (viewsIn (l .before .g .given .0 .0) (a .image .now))) ≡ c .open-sector .result
-opened c = ap openAs (survey-state (c .before .before .survey .ensures)) ∙ sym (c .open-sector .ensures)
+opened c = ap openAs (survey-state _ _ (c .before .survey .ensures)) ∙ sym (c .open-sector .ensures)
 
 rest : (c : tie.After-w)
-    → let l = c .before .before .before .before .before .before in
+    → let l = c .before .before .before .before .before in
     let a = l .before .before .before .before .before .before .args in
     stateOf (viewsIn (l .before .g .given .0 .0) (a .image .now)) ≡ some (atRest (sectorNo (c .w .given .0 .0)))
 rest c = open-working _ (opened (c .before .before) ∙ c .w .given .1)
@@ -85,12 +85,11 @@ enum-known-w c = search needs
 read-requires : tie.Need-read-requires
 read-requires c κs =
     let o = c .before .before .before .before in
-    let l = o .before .before .before .before in
+    let l = o .before .before .before in
     let a = l .before .before .before .before .before .before .args in
     let at-rest = rest (c .before .before) in
-    let outlines = survey-outlines (o .before .before .survey .ensures) at-rest in
     let inside = rest-inside (l .before .g .given .0 .0) (a .image .now) (sectorNo (c .before .before .w .given .0 .0)) at-rest in
-    (backs l, (outlines, (inside, o .before .before .before .if1 .left)))
+    (backs l, (inside, o .before .before .if1 .left))
 
 enum-known-refusal : tie.Need-enum-known-refusal
 enum-known-refusal c = search needs
@@ -102,9 +101,9 @@ returns-3 : tie.Need-returns-3
 returns-3 c =
     let w = c .before .before .before .before .before in
     let o = w .before .before in
-    let l = o .before .before .before .before in
+    let l = o .before .before .before in
     let a = l .before .before .before .before .before .before .args in
-    let due = read-rest (a .sector-size) (a .count) (a .image .now) (a .id) (length (a .buffer .now)) (l .before .g .given .0 .0) (legal l) (o .before .before .before .if1 .left) (rest w) in
+    let due = read-rest (a .sector-size) (a .count) (a .image .now) (a .id) (length (a .buffer .now)) (l .before .g .given .0 .0) (legal l) (o .before .before .if1 .left) (rest w) in
     let r = c .before .before .read .ensures in
     (ap replyNumbersOf (r .0) ∙ numbers-as _ ∙ ap replyNumbers (sym due), (r .1 ∙ ap (λ (x : rule.Reply). bufferAfter x (a .buffer .now)) (sym due), refl))
 
@@ -112,11 +111,11 @@ returns-4 : tie.Need-returns-4
 unfolding replyNumbersOf bufferAfter
 returns-4 c =
     let o = c .before .before .before in
-    let l = o .before .before .before .before in
+    let l = o .before .before .before in
     let a = l .before .before .before .before .before .before .args in
     let (answers, buffer) =
     both replyNumbers (a .buffer .now)
-    (read-unready (a .sector-size) (a .count) (a .image .now) (a .id) (length (a .buffer .now)) (l .before .g .given .0 .0) (legal l) (o .before .before .before .if1 .left) (opened o ∙ c .before .refusal .given .1)) in
+    (read-unready (a .sector-size) (a .count) (a .image .now) (a .id) (length (a .buffer .now)) (l .before .g .given .0 .0) (legal l) (o .before .before .if1 .left) (opened o ∙ c .before .refusal .given .1)) in
     (answers, (buffer, refl))
 
 pub read-spec : {M : Type 1} → statement M

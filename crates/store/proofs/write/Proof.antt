@@ -8,20 +8,21 @@ use lib.ListN.{length}
 use borrow.Author.Needs.{needs}
 use Rattle.rules.specs.Ground.{keptFromValues}
 use Rattle.rules.specs.Look as look
-use Rattle.rules.specs.Look.{needOf}
+use Rattle.rules.specs.Look.{needOf, isDone}
 use Rattle.rules.specs.Meaning.{atRest, stateOf}
 use Rattle.layout.specs.declared.Sizes.the-variants.{Legal}
 use Rattle.layout.specs.Geometry.{blocksOf, sizesOf, Backs}
 use Rattle.layout.specs.Numbers.{sectorNo}
 use Rattle.layout.proofs.Laws.{legal-backs, from-sizes}
+use Rattle.entry.specs.Answer.{limitOf}
 use Rattle.image.specs.Answer.{viewsIn}
-use Rattle.image.proofs.Laws.{survey-state, survey-outlines}
+use Rattle.image.proofs.Laws.{survey-state}
 use Rattle.answer.specs.declared.Refusal.the-variants as refusal
 use Rattle.answer.specs.Answer.{refusalOf, Leaves}
 use Rattle.store.specs.State.{openAs}
 use Rattle.store.proofs.Sizes.{open-working}
 use Rattle.answer.proofs.Leaving.{leaves-refused, leaves-given}
-use Rattle.at_rest.proofs.Changing.{write-reserved, write-empty, write-too-long}
+use Rattle.at_rest.proofs.Changing.{write-reserved, write-empty, write-too-long, write-rest}
 use Rattle.store.proofs.Changing.{few-blocks, write-illegal, write-legal, write-unready}
 use Rattle.store.proofs.write.Statement.{statement}
 use Rattle.store.proofs.write.Tie as tie
@@ -42,11 +43,11 @@ unfolding needOf
 needed d = ap (λ (n : ℕ). 1 + n) (d .data-blocks .ensures)
 
 -- the state of the image, by the sector that is open or the refusal
-opened : (o : tie.After-open-sector) → let l = o .before .before .before .before .before .before .before .before .before in
+opened : (o : tie.After-open-sector) → let l = o .before .before .before .before .before .before .before .before in
     openAs (stateOf (viewsIn (l .before .g .given .0 .0) (l .before .before .before .before .before .before .args .image .now))) ≡ o .open-sector .result
-opened o = ap openAs (survey-state (o .before .before .survey .ensures)) ∙ sym (o .open-sector .ensures)
+opened o = ap openAs (survey-state _ _ (o .before .survey .ensures)) ∙ sym (o .open-sector .ensures)
 
-rest : (c : tie.After-w) → let l = c .before .before .before .before .before .before .before .before .before .before .before in
+rest : (c : tie.After-w) → let l = c .before .before .before .before .before .before .before .before .before .before in
     stateOf (viewsIn (l .before .g .given .0 .0) (l .before .before .before .before .before .before .args .image .now)) ≡ some (atRest (sectorNo (c .w .given .0 .0)))
 rest c = open-working _ (opened (c .before .before) ∙ c .w .given .1)
 
@@ -125,18 +126,17 @@ open-sector-requires c κs = search needs
 enum-known-w : tie.Need-enum-known-w
 enum-known-w c = search needs
 
-write-requires : tie.Need-write-requires
-write-requires c κs =
+-- the value fits an empty sector
+fits : (o : tie.After-open-sector) → let l = o .before .before .before .before .before .before .before .before in
+    let a = l .before .before .before .before .before .before .args in
+    needOf (look.value (a .id) (length (a .value .now))) ≤ blocksOf (l .before .g .given .0 .0) - keptFromValues
+fits o = omega (arith, o .before .before .before .if3 .left, o .before .before .before .before .value-limit .ensures, needed (o .before .before .before .before .before))
+
+make-requires : tie.Need-make-requires
+unfolding isDone limitOf
+make-requires c κs =
     let o = c .before .before .before .before in
-    let d = o .before .before .before .before .before .before in
-    let l = d .before .before .before in
-    let at-rest = rest (c .before .before) in (
-      backs l,
-      (
-        record { outlines = survey-outlines (o .before .before .survey .ensures) at-rest; rest = at-rest },
-        (d .before .before .if1 .left, (omega (arith, d .before .if2 .left), (needed d, omega (arith, o .before .before .before .before .if3 .left, o .before .before .before .before .before .value-limit .ensures)))),
-      ),
-    )
+    (backs (o .before .before .before .before .before .before .before .before), (rest (c .before .before), record { plain = refl; sized = refl; fits = fits o }))
 
 enum-known-refusal : tie.Need-enum-known-refusal
 enum-known-refusal c = search needs
@@ -148,14 +148,17 @@ same-length : tie.Need-same-length
 same-length c = search needs
 
 returns-5 : tie.Need-returns-5
+unfolding limitOf
 returns-5 c =
-    let l = c .before .before .before .before .before .before .before .before .before .before .before .before .before .before .before .before in
+    let w = c .before .before .before .before .before in
+    let o = w .before .before in
+    let l = o .before .before .before .before .before .before .before .before in
     let a = l .before .before .before .before .before .before .args in
     let g = l .before .g .given .0 .0 in
-    let left =
-    leaves-given g (a .sector-size) (from-sizes (a .sector-size) (a .count) _ g (legal l) .blocks)
-    (write-legal (a .sector-size) (a .count) (a .image .now) (a .id) (a .value .now) g (legal l)) (c .before .before .write .ensures) in
-    (left, refl)
+    let due =
+    write-legal (a .sector-size) (a .count) (a .image .now) (a .id) (a .value .now) g (legal l)
+    ∙ write-rest g (a .image .now) (a .id) (a .value .now) (o .before .before .before .before .before .before .before .if1 .left) (omega (arith, o .before .before .before .before .before .before .if2 .left)) (fits o) (rest w) in
+    (leaves-given g (a .sector-size) (from-sizes (a .sector-size) (a .count) _ g (legal l) .blocks) due (c .before .before .make .ensures), refl)
 
 same-length-2 : tie.Need-same-length-2
 same-length-2 c = search needs
@@ -163,14 +166,12 @@ same-length-2 c = search needs
 returns-6 : tie.Need-returns-6
 returns-6 c =
     let o = c .before .before .before .before in
-    let d = o .before .before .before .before .before .before in
-    let l = d .before .before .before in
+    let l = o .before .before .before .before .before .before .before .before in
     let a = l .before .before .before .before .before .before .args in
     let g = l .before .g .given .0 .0 in
-    let fits : needOf (look.value (a .id) (length (a .value .now))) ≤ blocksOf g - keptFromValues = omega (arith, o .before .before .before .before .if3 .left, o .before .before .before .before .before .value-limit .ensures, needed d) in
     let due =
     write-legal (a .sector-size) (a .count) (a .image .now) (a .id) (a .value .now) g (legal l)
-    ∙ write-unready g (a .image .now) (a .id) (a .value .now) (d .before .before .if1 .left) (omega (arith, d .before .if2 .left)) fits (opened o ∙ c .before .before .refusal .given .1) in
+    ∙ write-unready g (a .image .now) (a .id) (a .value .now) (o .before .before .before .before .before .before .before .if1 .left) (omega (arith, o .before .before .before .before .before .before .if2 .left)) (fits o) (opened o ∙ c .before .before .refusal .given .1) in
     (subst (Leaves _ _ _ _ _) (sym (c .refused5 .ensures)) (leaves-refused (a .sector-size) (a .allowance) (a .image .now) _ due), refl)
 
 pub write-spec : {M : Type 1} → statement M
@@ -194,7 +195,7 @@ write-spec =
     survey-requires
     open-sector-requires
     enum-known-w
-    write-requires
+    make-requires
     enum-known-refusal
     refused-requires-5
     same-length

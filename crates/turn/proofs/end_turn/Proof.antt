@@ -1,80 +1,122 @@
--- `end_turn`: the done, and where it was not cut, the reopening.
+-- `end_turn`: the done shows at once in the active sector, and the reopening in the one after it.
 -- Assumes nothing.
-use mathlib.Core.Path.{subst}
+use mathlib.Core.Path.{_≡_, refl, sym, ap, subst, _∙_}
+use mathlib.Core.List.{List, []}
 use Prim.Native.Nat.{ℕ, _<_}
 use native.Mathlib.Omega.{arith}
 use borrow.Author.Needs.{needs}
-use Rattle.rules.specs.Meaning.{next}
-use Rattle.rules.specs.Stores.{doneEntry, append, reopen}
+use Rattle.rules.specs.Notation.{Each}
+use Rattle.rules.specs.Reading.{View}
+use Rattle.rules.specs.Meaning.{viewAt, next}
+use Rattle.rules.specs.Stores.{append, reopen, doneEntry}
+use Rattle.rules.proofs.Terms.{IsAtomic, reopenedView, changed}
 use Rattle.rules.proofs.Basics.Places.{at-each}
-use Rattle.rules.proofs.Ring.Order.{next-lt}
-use Rattle.rules.proofs.Blocks.Append.{append-atomic}
-use Rattle.rules.proofs.Blocks.Made.{done-proper}
 use Rattle.rules.proofs.Blocks.OnBytes.{image-of-bytes}
+use Rattle.rules.proofs.Blocks.Made.{done-proper}
+use Rattle.rules.proofs.Blocks.Reopen.{reopen-atomic}
+use Rattle.rules.proofs.Ring.Order.{next-lt, next-ne}
 use Rattle.layout.specs.Numbers.{sectorNo}
 use Rattle.layout.specs.Geometry.{blocksOf, sectorsOf}
-use Rattle.turn.specs.Turn.{Went}
-use Rattle.log.proofs.Laws.{did-backs, did-consistent}
+use Rattle.image.specs.Answer.{viewsIn, activeAs}
+use Rattle.log.specs.Budget.{Did}
+use Rattle.log.proofs.Laws.{did-backs, did-consistent, did-and-then}
 use Rattle.append.proofs.Appending.{blocksIn}
-use Rattle.turn.proofs.Stepping.{atomic-lies, went-then, went-cut}
+use Rattle.append.proofs.AfterAppend.{append-lies, appended-active, appended-others}
+use Rattle.turn.proofs.Stepping.{step-here, step-others, turned-cut}
 use Rattle.turn.proofs.end_turn.Statement.{statement}
 use Rattle.turn.proofs.end_turn.Tie as tie
 
-next-sector-requires : tie.Need-next-sector-requires
-next-sector-requires c κs = search needs
+typed : (c : tie.After-slice-known) → Each (λ b. b < 256) (c .before .args .image .now)
+typed c = at-each (λ b. b < 256) 0 (c .before .args .image .now) (λ j h. omega (arith, c .slice-known .given j))
 
-done-in-requires : tie.Need-done-in-requires
-done-in-requires c κs = search needs
+-- the sector after the active one
+module _ (k : tie.Start) where
+  oldest : ℕ
+  oldest = next (sectorsOf (k .args .g)) (sectorNo (k .args .active .sector))
+
+  oldest-inside : next (sectorsOf (k .args .g)) (sectorNo (k .args .active .sector)) < sectorsOf (k .args .g)
+  oldest-inside = next-lt (sectorsOf (k .args .g)) (sectorNo (k .args .active .sector)) (k .pre .1 .0 .inside)
+
+  apart : next (sectorsOf (k .args .g)) (sectorNo (k .args .active .sector)) ≡ sectorNo (k .args .active .sector) → ⊥
+  apart = next-ne (sectorsOf (k .args .g)) (sectorNo (k .args .active .sector)) (k .pre .0 .sound .sectors-from)
+
+slice-aggregate-append : tie.Need-slice-aggregate-append
+slice-aggregate-append c = search needs
 
 same-length : tie.Need-same-length
 same-length c = search needs
 
-returns : tie.Need-returns
-returns c =
-    let d = c .before .before .before in
-    let k = d .before .before .before .before in
-    went-cut (append (blocksOf (k .args .g)) (sectorNo (k .args .u)) doneEntry) (reopen (blocksOf (k .args .g)) (next (sectorsOf (k .args .g)) (sectorNo (k .args .u))))
-    (blocksIn (k .args .g) (k .args .image .now)) (k .pre .1 .1 .1 .1) (d .done-in .ensures) (c .if1 .taken)
-
-reopen-in-requires : tie.Need-reopen-in-requires
-reopen-in-requires c κs =
-    let i = c .before .before .before in
-    let d = i .before .before .before in
-    let n = d .before .before in
-    let k = n .before .before in
-    let went = d .done-in .ensures in
-    let inside : sectorNo (n .next-sector .result) < sectorsOf (k .args .g) =
-    omega (arith, n .next-sector .ensures, next-lt (sectorsOf (k .args .g)) (sectorNo (k .args .u)) (k .pre .1 .1 .0)) in
-    (did-backs (went .did) (k .pre .0), (went .sectors (i .if1 .left), (inside, did-consistent (went .did) (k .pre .1 .1 .1 .1))))
-
 same-length-2 : tie.Need-same-length-2
 same-length-2 c = search needs
+
+append-requires : tie.Need-append-requires
+append-requires c κs =
+    let k = c .before .before .before in
+    (k .pre .0, (k .pre .1 .0, (k .pre .1 .1 .1, (k .pre .1 .1 .0, refl))))
+
+returns : tie.Need-returns
+returns c =
+    let k = c .before .before .before .before .before .before .before in
+    let u : ℕ = sectorNo (k .args .active .sector) in
+    turned-cut (append (blocksOf (k .args .g)) u doneEntry) (reopen (blocksOf (k .args .g)) (next (sectorsOf (k .args .g)) u)) (blocksIn (k .args .g) (k .args .image .now)) (k .pre .1 .1 .1)
+    (c .before .before .before .append .ensures .0) (c .if1 .taken)
+
+next-sector-requires : tie.Need-next-sector-requires
+next-sector-requires c κs = c .before .before .before .before .before .before .before .before .before .pre .1 .0 .inside
+
+reopen-requires : tie.Need-reopen-requires
+reopen-requires c κs =
+    let k = c .before .before .before .before .before .before .before .before .before .before .before in
+    let did = c .before .before .before .before .before .before .before .append .ensures .0 in
+    (did-backs did (k .pre .0), (omega (arith, c .before .next-sector .ensures, oldest-inside k), did-consistent did (k .pre .1 .1 .1)))
 
 returns-2 : tie.Need-returns-2
 unfolding doneEntry
 returns-2 c =
-    let o = c .before .before in
-    let i = o .before .before .before .before in
-    let d = i .before .before .before in
-    let n = d .before .before in
-    let k = n .before .before in
-    let u : ℕ = sectorNo (k .args .u) in
-    let typed = at-each (λ b. b < 256) 0 (k .args .image .now) (λ j h. omega (arith, n .before .slice-known .given j)) in
-    let whole = image-of-bytes (blocksOf (k .args .g)) (sectorsOf (k .args .g)) (k .args .image .now) typed (k .pre .0 .sized) in
-    let went = d .done-in .ensures in
-    let lies = atomic-lies (k .pre .0) (append-atomic {e = doneEntry} (k .pre .0 .sound .blocks-from) (k .pre .0 .sound .blocks-to) whole (k .pre .1 .1 .0) done-proper (k .pre .1 .1 .1 .0)) (went .did) in
-    went-then (append (blocksOf (k .args .g)) u doneEntry) (reopen (blocksOf (k .args .g)) (next (sectorsOf (k .args .g)) u)) (k .pre .0) lies (went .did) (i .if1 .left)
-    (subst (λ (s : ℕ). Went (k .args .g) (d .done-in .last .0) (reopen (blocksOf (k .args .g)) s (blocksIn (k .args .g) (d .done-in .last .0))) (d .done-in .result .budget) (o .reopen-in .last .0) (o .reopen-in .result))
-    (n .next-sector .ensures) (o .reopen-in .ensures))
+    let k = c .before .before .before .before .before .before .before .before .before .before .before .before .before .before in
+    let g = k .args .g in
+    let B : ℕ = blocksOf g in
+    let S : ℕ = sectorsOf g in
+    let u : ℕ = sectorNo (k .args .active .sector) in
+    let o : ℕ = next S u in
+    let d = c .before .before .before .before .before .before .before .before .before .before in
+    let middle : List ℕ = d .append .last .0 in
+    let did = d .append .ensures .0 in
+    let bytes = typed (c .before .before .before .before .before .before .before .before .before .before .before .before .before) in
+    let carried = k .pre .1 .0 in
+    let lies = append-lies (k .pre .0) bytes (carried .inside) (carried .told) done-proper (k .pre .1 .1 .0) did in
+    let uncut = c .before .before .before .before .before .before .before .if1 .left in
+    let reopened =
+    subst (λ (s : ℕ). Did g middle (reopen B s (blocksIn g middle)) (d .append .result .budget) (c .before .before .reopen .last .0) (c .before .before .reopen .result))
+    (c .before .before .before .before .next-sector .ensures) (c .before .before .reopen .ensures) in
+    let backs = did-backs did (k .pre .0) in
+    let whole = image-of-bytes B S middle (at-each (λ b. b < 256) 0 (d .append .last .0) (λ j h. omega (arith, c .before .before .before .before .before .before .before .before .slice-known2 .given j))) (backs .sized) in
+    let atomic : IsAtomic B S (reopen B o) (blocksIn g middle) (changed reopenedView o (viewsIn g middle)) = reopen-atomic (k .pre .0 .sound .blocks-from) whole (oldest-inside k) in
+    record {
+      did = did-and-then (append B u doneEntry) (reopen B o) (k .pre .0) lies did uncut reopened;
+      moved = λ made.
+          let others = step-others reopenedView o backs atomic reopened made in
+          record {
+            told =
+                d .append .ensures .1 uncut
+                ∙ appended-active (k .pre .0) bytes (carried .inside) (carried .told) done-proper (k .pre .1 .1 .0) did uncut
+                ∙ ap (activeAs u) (sym (others u (λ same. apart k (sym same))));
+            unused = ap (λ (v : View). v .entries) (step-here reopenedView o backs atomic reopened made (oldest-inside k));
+            others = λ t other away.
+                ap (λ (v : View). v .entries)
+                (others t away ∙ appended-others (k .pre .0) bytes (carried .inside) (carried .told) done-proper (k .pre .1 .1 .0) did uncut t other);
+          };
+    }
 
 pub end-turn-spec : {M : Type 1} → statement M
 end-turn-spec =
     tie.close
     (tie.spec
-    next-sector-requires
-    done-in-requires
+    slice-aggregate-append
+    append-requires
     same-length
     returns
-    reopen-in-requires
+    next-sector-requires
+    reopen-requires
     same-length-2
     returns-2)

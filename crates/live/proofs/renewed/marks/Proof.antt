@@ -6,8 +6,8 @@ use native.Mathlib.Omega.{arith}
 use lib.ListN.{length, getD}
 use borrow.Author.Needs.{needs}
 use Rattle.layout.specs.Numbers.{sectorNo}
-use Rattle.image.specs.Answer.{noSummary}
-use Rattle.image.proofs.EntryBlocks.{entries-noted}
+use Rattle.image.proofs.EntryBlocks.{entries-few}
+use Rattle.live.proofs.Counting.{entries-noted}
 use Rattle.index.proofs.IndexLaws.{index-none}
 use Rattle.live.proofs.LiveEntries.{entriesAt}
 use Rattle.live.proofs.renewed.marks.Statement.{statement}
@@ -18,7 +18,7 @@ low c = let k = c .before .before in omega (arith, c .number .ensures, k .pre .1
 
 -- the entries that were counted are those of the sector
 counted : (c : tie.After-number) → let k = c .before .before in
-    getD (k .args .t3) (c .number .result) noSummary .entries ≡ length (entriesAt (k .args .g) (k .args .image .now) (k .args .s))
+    getD (k .args .t3) (c .number .result) 0 ≡ length (entriesAt (k .args .g) (k .args .image .now) (k .args .s))
 counted c =
     let k = c .before .before in
     rw (c .number .ensures) (entries-noted (k .args .g) (k .args .image .now) (sectorNo (k .args .s)) (k .pre .1 .1 .1 .0) (k .pre .1 .0))
@@ -29,8 +29,13 @@ number-requires c κs = search needs
 mul-count : tie.Need-mul-count
 mul-count c = omega (arith, low c)
 
-element-copy-out-count : tie.Need-element-copy-out-count
-element-copy-out-count c = low c
+array-read-count : tie.Need-array-read-count
+array-read-count c = low c
+
+cast-count : tie.Need-cast-count
+cast-count c =
+    let k = c .before .before in
+    omega (arith, counted c, entries-few (k .args .g) (k .args .image .now) (sectorNo (k .args .s)) (k .pre .1 .1 .1 .0) (k .pre .0 .sound))
 
 slice-aggregate-renewed-within : tie.Need-slice-aggregate-renewed-within
 slice-aggregate-renewed-within c = search needs
@@ -64,7 +69,8 @@ marks-spec =
     (tie.spec
     number-requires
     mul-count
-    element-copy-out-count
+    array-read-count
+    cast-count
     slice-aggregate-renewed-within
     slice-aggregate-renewed-within-2
     renewed-within-requires

@@ -13,10 +13,11 @@ use Rattle.layout.specs.Geometry.{sectorsOf}
 use Rattle.layout.specs.Numbers.{sectorNo}
 use Rattle.mask.specs.Flags.{padded}
 use Rattle.mask.specs.Marks.{maxMarks, marksOf}
-use Rattle.image.specs.Answer.{noSummary, viewsIn}
+use Rattle.image.specs.Answer.{viewsIn}
 use Rattle.live.specs.Live.{renewedFlags, renewedFlagsIn}
 use Rattle.image.proofs.Sectors.{views-count}
-use Rattle.image.proofs.EntryBlocks.{entries-noted}
+use Rattle.image.proofs.EntryBlocks.{entries-few}
+use Rattle.live.proofs.Counting.{entries-noted}
 use Rattle.live.proofs.LiveEntries.{entriesAt}
 use Rattle.live.proofs.Passing.{sectorsLeft, fewer-left, Passing, passing-start, passing-inside, passing-next, passing-end}
 use Rattle.live.proofs.renewed.renewed_by_newer.Statement.{statement}
@@ -42,7 +43,7 @@ spare-inside c =
     let k = c .before .before .before .before .before in
     omega (arith, spare-is c, next-lt (sectorsOf (k .args .g)) (sectorNo (k .args .w)) (k .pre .1 .1 .0), views-count (k .args .g) (k .args .image .now))
 
--- the sector that is passed is one of the image, and its summary counts its entries
+-- the sector that is passed is one of the image, and its count is that of its entries
 inside : (c : tie.At-loop Inv-loop μ-loop) → let k = c .before .before .before .before .before .before .before in
     sectorNo (c .loop .t) < sectorsOf (k .args .g)
 inside c =
@@ -56,7 +57,7 @@ low c =
     omega (arith, c .number3 .ensures, inside l, k .pre .0 .sound .sectors-to)
 
 counted : (c : tie.After-number3 Inv-loop μ-loop) → let l = c .before .before .before in let k = l .before .before .before .before .before .before .before in
-    getD (k .args .t3) (c .number3 .result) noSummary .entries ≡ length (entriesAt (k .args .g) (k .args .image .now) (l .loop .t))
+    getD (k .args .t3) (c .number3 .result) 0 ≡ length (entriesAt (k .args .g) (k .args .image .now) (l .loop .t))
 counted c =
     let l = c .before .before .before in
     let k = l .before .before .before .before .before .before .before in
@@ -92,8 +93,14 @@ number-requires-3 c κs = search needs
 mul-entries : tie.Need-mul-entries Inv-loop μ-loop
 mul-entries c = omega (arith, low c)
 
-element-copy-out-entries : tie.Need-element-copy-out-entries Inv-loop μ-loop
-element-copy-out-entries c = low c
+array-read-entries : tie.Need-array-read-entries Inv-loop μ-loop
+array-read-entries c = low c
+
+cast-entries : tie.Need-cast-entries Inv-loop μ-loop
+cast-entries c =
+    let l = c .before .before .before in
+    let k = l .before .before .before .before .before .before .before in
+    omega (arith, counted c, entries-few (k .args .g) (k .args .image .now) (sectorNo (l .loop .t)) (inside l) (k .pre .0 .sound))
 
 renewed-by-sector-requires : tie.Need-renewed-by-sector-requires Inv-loop μ-loop
 renewed-by-sector-requires c κs =
@@ -147,7 +154,8 @@ renewed-by-newer-spec =
     number-requires-2
     number-requires-3
     mul-entries
-    element-copy-out-entries
+    array-read-entries
+    cast-entries
     renewed-by-sector-requires
     next-sector-requires-3
     loop-less
