@@ -39,11 +39,15 @@ pub store_other : (im : Image) (s b : ℕ) (block : Block) (t : ℕ) → (t ≡ 
 unfolding store
 store_other im s b block t other = get_or-set_other im s t (set (get_or im s []) b block) [] other
 
-pub apply-other : {stores : List Store} (im : Image) (t : ℕ) → Each (λ (st : Store). t ≡ st.sector → ⊥) stores → get_or (apply stores im) t [] ≡ get_or im t []
+-- The recursion wants the sector first.
+elsewhere : (t : ℕ) {stores : List Store} (im : Image) → Each (λ (st : Store). t ≡ st.sector → ⊥) stores → get_or (apply stores im) t [] ≡ get_or im t []
 unfolding apply
-apply-other im t empty = refl
-apply-other im t (each {x = st} other others) =
-    apply-other (store im st.sector st.block st.bytes) t others ∙ store_other im st.sector st.block st.bytes t other
+elsewhere t im empty = refl
+elsewhere t im (each {x = st} other others) =
+    elsewhere t (store im st.sector st.block st.bytes) others ∙ store_other im st.sector st.block st.bytes t other
+
+pub apply-other : {stores : List Store} (im : Image) (t : ℕ) → Each (λ (st : Store). t ≡ st.sector → ⊥) stores → get_or (apply stores im) t [] ≡ get_or im t []
+apply-other im t others = elsewhere t im others
 
 -- What the sectors show, one by one.
 pub views-length : (B : ℕ) (im : Image) → length (views_of B im) ≡ length im
