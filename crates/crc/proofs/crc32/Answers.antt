@@ -5,16 +5,12 @@ use lib.Bits.{bit_xor}
 use Rattle.rules.specs.Notation.{if◌then◌else◌, times}
 use Rattle.rules.specs.Checksum.{step32, crc32}
 use Rattle.crc.proofs.Table.{is_right, right}
-use Rattle.crc.proofs.crc32.Statement.{statement}
-use Rattle.crc.proofs.crc32.Tie as tie
+use Rattle.crc.proofs.crc32.Goals as goal
 
-update32-requires : tie.Need-update32-requires
+pub update32-requires : goal.update32-requires
 unfolding is_right times step32 if◌then◌else◌
-update32-requires c κs = right step32 _ tt refl
+update32-requires c = right step32 _ tt refl
 
-returns : tie.Need-returns
+pub returns : goal.returns
 unfolding crc32
 returns c = ap (λ (x : ℕ). bit_xor x 0xFFFFFFFF) c.update32.ensures
-
-pub crc32-spec : {M : Type 1} → statement M
-crc32-spec = tie.close (tie.spec update32-requires returns)

@@ -12,28 +12,14 @@ use lib.Dec.{eqb}
 use lib.ListN.{length, length-map, get_or}
 use Rattle.mask.specs.Marks.{word_bits, marks_of}
 use Rattle.mask.proofs.Marking.{bit-in-words}
-use Rattle.mask.proofs.marks.Marks.has.Statement.{statement}
-use Rattle.mask.proofs.marks.Marks.has.Tie as tie
+use Rattle.mask.proofs.marks.Marks.has.Goals as goal
 
-mul-result : tie.Need-overflow-mul-result
-mul-result c = search rules
-
-array-read-result : tie.Need-array-read-result
-array-read-result c = search rules
-
-shr-result : tie.Need-overflow-shr-result
-shr-result c = search rules
-
-returns : tie.Need-returns
+pub returns : goal.returns
 unfolding marks_of
-returns c =
-    let n = c.before.args.n in
-    let words = c.before.args.self.0 in
-    let many : length words ≡ 64 = sym (length-map words (λ (v : ℕ). v)) ∙ good_length (e_int w64) 64 (map (λ (v : ℕ). v) words) _ c.before.well-formed.0.1.1.0 in
+returns c = let n = c.args.n in
+    let words = c.args.self.0 in
+    let many : length words ≡ 64 = omega arith in
     let place : n / word_bits * word_bits + n % word_bits ≡ n = omega arith in
     ap (λ (x : ℕ). eqb x 1) (and_mask (get_or words (n / word_bits) 0 / 2 ^ (n % word_bits)) 1)
     ∙ bit-in-words word_bits words (n / word_bits) (n % word_bits) (omega arith) (omega arith)
     ∙ rw place
-
-pub has-spec : {M : Type 1} → statement M
-has-spec = tie.close (tie.spec mul-result array-read-result shr-result returns)

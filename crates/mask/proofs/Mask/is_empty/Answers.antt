@@ -4,12 +4,8 @@ use native.Mathlib.Omega.{arith}
 use Rattle.rules.specs.Ground.{max_sectors}
 use Rattle.mask.specs.Flags.{flags_of, sectors_in}
 use Rattle.mask.proofs.Word.{zero-empty}
-use Rattle.mask.proofs.Mask.is_empty.Statement.{statement}
-use Rattle.mask.proofs.Mask.is_empty.Tie as tie
+use Rattle.mask.proofs.Mask.is_empty.Goals as goal
 
-returns : tie.Need-returns
+pub returns : goal.returns
 unfolding flags_of sectors_in
-returns c = zero-empty max_sectors c.before.args.self.0 (omega arith)
-
-pub is_empty_spec : {M : Type 1} → statement M
-is_empty_spec = tie.close (tie.spec returns)
+returns c = zero-empty max_sectors c.args.self.0 (omega arith)

@@ -3,12 +3,8 @@
 use mathlib.Core.Path.{refl}
 use native.Mathlib.Omega.{arith}
 use Rattle.mask.specs.Flags.{bits_of, flags_of, padded}
-use Rattle.mask.proofs.Mask.none.Statement.{statement}
-use Rattle.mask.proofs.Mask.none.Tie as tie
+use Rattle.mask.proofs.Mask.none.Goals as goal
 
-returns : tie.Need-returns
+pub returns : goal.returns
 unfolding flags_of bits_of padded
 returns c = record { few = omega arith; exact = refl }
-
-pub none_spec : {M : Type 1} → statement M
-none_spec = tie.close (tie.spec returns)

@@ -4,15 +4,11 @@ use mathlib.Core.Path.{refl}
 use Rattle.rules.specs.Notation.{if◌then◌else◌, times}
 use Rattle.rules.specs.Checksum.{step8}
 use Rattle.crc.proofs.Table.{is_right, right}
-use Rattle.crc.proofs.crc8.Statement.{statement}
-use Rattle.crc.proofs.crc8.Tie as tie
+use Rattle.crc.proofs.crc8.Goals as goal
 
-crc8-by-requires : tie.Need-crc8-by-requires
+pub crc8_by-requires : goal.crc8_by-requires
 unfolding is_right times step8 if◌then◌else◌
-crc8-by-requires c κs = right step8 _ tt refl
+crc8_by-requires c = right step8 _ tt refl
 
-returns : tie.Need-returns
-returns c = c.crc8-by.ensures
-
-pub crc8-spec : {M : Type 1} → statement M
-crc8-spec = tie.close (tie.spec crc8-by-requires returns)
+pub returns : goal.returns
+returns c = c.crc8_by.ensures

@@ -1,0 +1,12 @@
+-- `layout::byte` meets its contract: the slice's rule says that each element is a byte.
+-- Assumes nothing.
+use mathlib.Core.Path.{refl}
+use native.Mathlib.Omega.{arith}
+use borrow.Author.Rules.{rules}
+use Rattle.layout.proofs.byte.Goals as goal
+
+pub overflow_cast-result : goal.overflow_cast-result
+overflow_cast-result c = omega (arith, c.shared_slice_known-1.given c.args.at)
+
+pub returns : goal.returns
+returns c = record { value = refl; upper_bound = (c.shared_slice_known-1.given c.args.at).fits }
