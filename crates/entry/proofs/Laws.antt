@@ -48,12 +48,9 @@ wrong-form (some h) e = let z : ◌≡◌ {A = ℕ} 0 1 = cc in absurd (omega ar
 -- ---- verdicts
 
 -- by their numbers, the verdicts that are no entry
-abbrev pub others : List ℕ
-others = 1 ∷ 2 ∷ 3 ∷ 4 ∷ 5 ∷ []
-
-pub no-entry : (before : rule.Scan) (v : rule.Verdict) → OneOf others (tag_of the_type (verdict_as before v)) → is_entry v ≡ false
+pub no-entry : (before : rule.Scan) (v : rule.Verdict) → ((h : Head) (next : Scan) → verdict_as before v ≡ verdict.Entry h next → ⊥) → is_entry v ≡ false
 unfolding is_entry
-no-entry before (rule.entry head) told = absurd (miss others 0 tt told)
+no-entry before (rule.entry head) told = absurd (told _ _ refl)
 no-entry before rule.blank told = refl
 no-entry before rule.other_cycle told = refl
 no-entry before rule.wrong_check told = refl

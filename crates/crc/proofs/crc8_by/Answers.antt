@@ -1,6 +1,5 @@
 -- `crc8_by` starts at 0, as the CRC-8 does.
 -- Assumes nothing.
-use borrow.Author.Rules.{rules}
 use Rattle.rules.specs.Checksum.{crc8}
 use Rattle.crc.proofs.crc8_by.Goals as goal
 

@@ -1,12 +1,9 @@
 -- `update32`: the CRC from here on, with the register as it is, stays that of all bytes from the start.
 -- A turn's lookup at the low byte, with the rest of the register xored in, is eight steps, by `step32-byte`.
-use mathlib.Core.Path.{◌≡◌, refl, ◌∙◌, sym, ap}
-use Prim.Native.Nat.{ℕ, ◌-◌, ◌/◌}
-use native.Mathlib.Omega.{arith}
+use mathlib.Core.Path.{◌≡◌}
+use Prim.Native.Nat.{◌-◌}
 use lib.ListN.{length, drop}
-use lib.Bits.{bit_xor}
 use Rattle.rules.specs.Checksum.{crc, step32}
-use Rattle.rules.proofs.Format.Checksum.{step32-byte, crc-next, crc-end}
 use Rattle.crc.proofs.update32.Given as goal
 
 abbrev pub invariant-loop-i : goal.invariant-loop-i

@@ -1,7 +1,6 @@
 -- `bytes`: the four remainders are those of `bytes_of`.
 -- Assumes nothing.
 use mathlib.Core.Path.{refl}
-use borrow.Author.Rules.{rules}
 use Rattle.rules.specs.Notation.{bytes_of}
 use Rattle.encode.proofs.bytes.Goals as goal
 

@@ -1,6 +1,5 @@
 -- `close` encodes what `close_block` says.
 -- Assumes nothing.
-use borrow.Author.Rules.{rules}
 use Rattle.rules.specs.Notation.{erased}
 use Rattle.rules.specs.Entry.{close_block}
 use Rattle.encode.proofs.close.Goals as goal

@@ -1,6 +1,5 @@
 -- `deletion` encodes what `deletion_block` says.
 -- Assumes nothing.
-use borrow.Author.Rules.{rules}
 use Rattle.rules.specs.Notation.{erased}
 use Rattle.rules.specs.Entry.{deletion_block}
 use Rattle.encode.proofs.deletion.Goals as goal

@@ -1,6 +1,5 @@
 -- `done`: a done has the bytes of a close.
 -- Assumes nothing.
-use borrow.Author.Rules.{rules}
 use Rattle.rules.specs.Entry.{done_block}
 use Rattle.encode.proofs.done.Goals as goal
 

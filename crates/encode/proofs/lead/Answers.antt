@@ -1,7 +1,6 @@
 -- `lead` encodes what `lead_block` says.
 -- Assumes nothing.
 use mathlib.Core.Path.{◌∙◌, ap}
-use borrow.Author.Rules.{rules}
 use Rattle.rules.specs.Ground.{reserved_id}
 use Rattle.rules.specs.Entry.{encode, lead_length, lead_block}
 use Rattle.encode.proofs.lead.Goals as goal

@@ -1,7 +1,6 @@
 -- `long_value` encodes what `long_value_block` says, with offset and CRC-32 for a body.
 -- Assumes nothing.
 use mathlib.Core.Path.{◌∙◌, ap}
-use borrow.Author.Rules.{rules}
 use Rattle.rules.specs.Entry.{encode, long_value_block}
 use Rattle.encode.proofs.long_value.Goals as goal
 

@@ -3,7 +3,6 @@
 use mathlib.Core.Path.{◌∙◌, ap}
 use mathlib.Core.List.{List, ◌++◌}
 use Prim.Native.Nat.{ℕ}
-use borrow.Author.Rules.{rules}
 use Rattle.rules.specs.Notation.{bytes_of}
 use Rattle.rules.specs.Entry.{numbers}
 use Rattle.rules.proofs.Basics.Lists.{elements}

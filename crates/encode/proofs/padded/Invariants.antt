@@ -1,15 +1,10 @@
 -- `padded`. The loop's invariant: of eight bytes FF, the first i are the value's.
 -- Assumes nothing.
-use mathlib.Core.Path.{◌≡◌, refl, sym, ap, ◌∙◌}
-use mathlib.Core.List.{List, ◌++◌}
-use Prim.Native.Nat.{ℕ, ◌+◌, ◌-◌, ◌≤◌, ◌<◌}
-use native.Mathlib.Nat.{zero-add}
-use native.Mathlib.Numerals.{add-one}
-use native.Mathlib.Omega.{arith}
-use lib.ListN.{length, get_or, set, drop}
-use lib.Seq.{paste, paste-suc, take-length}
+use mathlib.Core.Path.{◌≡◌}
+use Prim.Native.Nat.{◌-◌, ◌≤◌}
+use lib.ListN.{length}
+use lib.Seq.{paste}
 use Rattle.rules.specs.Notation.{erased}
-use Rattle.rules.proofs.Basics.Notation.{length-erased, drop-erased}
 use Rattle.encode.proofs.padded.Given as goal
 
 abbrev pub invariant-loop-i : goal.invariant-loop-i

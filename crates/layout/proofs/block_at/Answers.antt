@@ -4,7 +4,6 @@ use mathlib.Core.Path.{◌≡◌, sym, ap, ◌∙◌}
 use Prim.Native.Nat.{ℕ}
 use native.Mathlib.Omega.{arith}
 use lib.ListN.{length}
-use borrow.Author.Rules.{rules}
 use Rattle.rules.specs.Ground.{block_bytes}
 use Rattle.rules.proofs.Format.Ground.{length-sector-bytes, block-of-sector, read-block, length-block-bytes}
 use Rattle.layout.specs.Numbers.{sector_no, block_no}

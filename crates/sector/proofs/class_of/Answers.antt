@@ -3,7 +3,6 @@
 use mathlib.Core.Path.{◌≡◌, sym, ap, ◌∙◌}
 use mathlib.Core.Bool.{true, false}
 use Prim.Native.Nat.{ℕ}
-use borrow.Author.Rules.{rules}
 use Rattle.rules.specs.Ground.{sector_of}
 use Rattle.rules.specs.Reading.{View, view_of, entries_of}
 use Rattle.rules.specs.Meaning.{has_done}

@@ -1,14 +1,12 @@
 -- `sector::cycle_at`: what is looked at is block B-1.
 -- Assumes nothing.
-use mathlib.Core.Path.{◌≡◌, ap, ◌∙◌}
+use mathlib.Core.Path.{ap, ◌∙◌}
 use Prim.Native.Nat.{◌-◌}
 use native.Mathlib.Omega.{arith}
-use borrow.Author.Rules.{rules}
-use Rattle.rules.specs.Ground.{image_of, block_at}
+use Rattle.rules.specs.Ground.{block_at}
 use Rattle.rules.specs.Entry.{cycle_of}
 use Rattle.rules.specs.Reading.{view_of}
-use Rattle.layout.specs.Numbers.{sector_no, block_no}
-use Rattle.layout.specs.Geometry.{blocks_of, sectors_of}
+use Rattle.layout.specs.Numbers.{block_no}
 use Rattle.sector.proofs.cycle_at.Goals as goal
 
 pub block_at-requires : goal.block_at-requires

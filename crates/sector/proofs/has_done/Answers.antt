@@ -2,15 +2,12 @@
 -- block left after every entry, so a block that is none ends the loop. That the table is right is one test over its 256 entries,
 -- which antt computes.
 -- Assumes nothing.
-use mathlib.Core.Path.{◌≡◌, refl, sym, ap, ◌∙◌, subst}
+use mathlib.Core.Path.{◌≡◌, refl, sym, ap, ◌∙◌}
 use mathlib.Core.Bool.{false}
 use mathlib.Core.List.{[]}
 use Prim.Native.Nat.{ℕ}
 use native.Mathlib.Omega.{arith}
 use lib.ListN.{get_or}
-use types.Run.{OneOf}
-use denote.Enum.Declared.{tag_of}
-use borrow.Author.Rules.{rules}
 use Rattle.rules.specs.Notation.{if◌then◌else◌, times}
 use Rattle.rules.specs.Ground.{sector_of}
 use Rattle.rules.specs.Checksum.{step8}
@@ -20,11 +17,10 @@ use Rattle.crc.proofs.Table.{is_right, right}
 use Rattle.layout.specs.Geometry.{blocks_of}
 use Rattle.layout.specs.Numbers.{block_no}
 use Rattle.entry.specs.declared.Verdict.{Verdict}
-use Rattle.entry.specs.contracts.Verdict.{the_type}
 use Rattle.entry.specs.Answer.{scan_of, verdict_as}
-use Rattle.entry.proofs.Laws.{others, no-entry}
+use Rattle.entry.proofs.Laws.{no-entry}
 use Rattle.sector.proofs.Answers.{BlockRead, block_read, is-entry}
-use Rattle.sector.proofs.Standing.{Standing, stand-start, stand-below, stand-left, stand-next, stand-undone, stand-done}
+use Rattle.sector.proofs.Standing.{stand-start, stand-below, stand-left, stand-next, stand-undone, stand-done}
 use Rattle.sector.proofs.Laws.{stand-bounded}
 use Rattle.sector.proofs.has_done.Goals as goal
 use Rattle.sector.proofs.has_done.Goals.{After-block_by-verdict, After-block_bytes-bytes, In-Entry}
@@ -45,7 +41,9 @@ verdict_on c =
     look B c.args.cycle (scan_of c.loop-next.scan) (get_or (sector_of B c.args.sector.now) c.loop-next.at [])
 
 judged : (c : After-block_by-verdict) → c.block_by-verdict.result ≡ verdict_as (scan_of c.loop-next.scan) (verdict_on c)
-judged c = rw (block-there (record { before = c.before.before.before; type_inv = record { sector = c.shared_slice_known-1.given } })).block at c.block_by-verdict.ensures
+judged c =
+    let there = block_read _ _ _ (omega (arith, stand-below c.loop-next.invariant.0)) c.requires.sector_len c.new.ensures c.block_bytes-bytes.ensures in
+    rw there.block at c.block_by-verdict.ensures
 
 -- an entry was found there
 found : (c : In-Entry)
@@ -69,7 +67,7 @@ block_by-verdict-requires c =
     record { table = right step8 _ tt refl; block_len = (block-there (goal.at.block_by-verdict-requires c).After-block_bytes-bytes).size; sound = c.requires.sound; small = (stand-bounded c.requires.sound.blocks_to c.loop-next.invariant.0).small }
 
 pub returns-in_default : goal.returns-in_default
-returns-in_default c = let none = no-entry _ _ (subst (λ (v : Verdict). OneOf others (tag_of the_type v)) (judged (goal.at.returns-in_default c).After-block_by-verdict) c.in_default.keys2) in
+returns-in_default c = let none = no-entry _ _ (λ h s e. c.in_default.not-Entry h s (judged (goal.at.returns-in_default c).After-block_by-verdict ∙ e)) in
     let inv = c.loop-next.invariant in
     stand-undone inv.0 none inv.1
 

@@ -1,25 +1,20 @@
 -- `sector::is_unused`: the lead is block B-1, the first entry block B-3.
 -- Assumes nothing.
-use mathlib.Core.Path.{◌≡◌, refl, sym, ap, subst, ◌∙◌}
+use mathlib.Core.Path.{◌≡◌, sym, ap, ◌∙◌}
 use mathlib.Core.Bool.{not}
 use mathlib.Core.List.{[]}
 use Prim.Native.Nat.{ℕ, ◌-◌}
 use native.Mathlib.Omega.{arith}
 use lib.ListN.{get_or}
-use types.Run.{OneOf}
-use denote.Enum.Declared.{tag_of}
-use borrow.Author.Rules.{rules}
 use Rattle.rules.specs.Ground.{sector_of}
-use Rattle.rules.specs.Entry.{cycle_of}
 use Rattle.rules.specs.Look as rule
 use Rattle.rules.specs.Look.{look, start, is_entry}
 use Rattle.rules.specs.Reading.{view_of}
 use Rattle.layout.specs.Geometry.{blocks_of}
 use Rattle.layout.specs.Numbers.{block_no}
 use Rattle.entry.specs.declared.Verdict.{Verdict}
-use Rattle.entry.specs.contracts.Verdict.{the_type}
-use Rattle.entry.specs.Answer.{scan_of, verdict_as}
-use Rattle.entry.proofs.Laws.{others, no-entry}
+use Rattle.entry.specs.Answer.{verdict_as}
+use Rattle.entry.proofs.Laws.{no-entry}
 use Rattle.sector.proofs.Answers.{BlockRead, block_read, is-entry}
 use Rattle.sector.proofs.Standing.{unused-by}
 use Rattle.sector.proofs.is_unused.Goals as goal
@@ -52,9 +47,9 @@ verdict_on c =
 judged : (c : After-block) → c.block.result ≡ verdict_as start (verdict_on c)
 unfolding view_of
 judged c =
-    
-    
-    rw (c.start.ensures, c.cycle_in-cycle.ensures, (lead-there (record { before = c.before.before.before.before.before.before; type_inv = record { sector = c.shared_slice_known-1.given } })).block, (first-there (record { before = c.before.before.before; type_inv = record { sector = c.shared_slice_known-1.given } })).block) at c.block.ensures
+    let lead = block_read _ _ _ (omega (arith, c.requires.sound.blocks_from)) c.requires.sector_len (rw c.blocks-blocks.ensures at c.new.ensures) c.block_bytes.ensures in
+    let first = block_read _ _ _ (omega (arith, c.requires.sound.blocks_from)) c.requires.sector_len (rw c.blocks-blocks.ensures at c.new-2.ensures) c.block_bytes-first.ensures in
+    rw (c.start.ensures, c.cycle_in-cycle.ensures, lead.block, first.block) at c.block.ensures
 
 pub block_bytes-requires : goal.block_bytes-requires
 block_bytes-requires c = omega (arith, ap block_no c.new.ensures)
@@ -73,7 +68,7 @@ block-requires c =
 pub returns-in_default : goal.returns-in_default
 unfolding view_of
 returns-in_default c =
-    let none = no-entry _ _ (subst (λ (v : Verdict). OneOf others (tag_of the_type v)) (judged (goal.at.returns-in_default c).After-block) c.in_default.keys2) in
+    let none = no-entry _ _ (λ h s e. c.in_default.not-Entry h s (judged (goal.at.returns-in_default c).After-block ∙ e)) in
     sym (unused-by (blocks_of c.args.g) _ _ c.requires.sound.blocks_from ∙ ap not none)
 
 pub returns : goal.returns

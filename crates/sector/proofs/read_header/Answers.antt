@@ -3,7 +3,6 @@
 use mathlib.Core.Path.{sym, ap, ◌∙◌}
 use Prim.Native.Nat.{◌-◌}
 use native.Mathlib.Omega.{arith}
-use borrow.Author.Rules.{rules}
 use Rattle.layout.specs.Geometry.{blocks_of}
 use Rattle.layout.specs.Numbers.{block_no}
 use Rattle.sector.proofs.Answers.{BlockRead, block_read, right-lead, wrong-lead, header-led, header-none}

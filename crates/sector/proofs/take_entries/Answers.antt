@@ -2,14 +2,11 @@
 -- block left after every entry, so a block that is none ends the loop. That the table is right is one test over its 256 entries,
 -- which antt computes.
 -- Assumes nothing.
-use mathlib.Core.Path.{◌≡◌, refl, sym, ap, ◌∙◌, subst}
+use mathlib.Core.Path.{◌≡◌, refl, sym, ap, ◌∙◌}
 use mathlib.Core.List.{[]}
 use Prim.Native.Nat.{ℕ}
 use native.Mathlib.Omega.{arith}
 use lib.ListN.{get_or}
-use types.Run.{OneOf}
-use denote.Enum.Declared.{tag_of}
-use borrow.Author.Rules.{rules}
 use Rattle.rules.specs.Notation.{if◌then◌else◌, times}
 use Rattle.rules.specs.Ground.{sector_of}
 use Rattle.rules.specs.Checksum.{step8}
@@ -19,11 +16,10 @@ use Rattle.crc.proofs.Table.{is_right, right}
 use Rattle.layout.specs.Geometry.{blocks_of}
 use Rattle.layout.specs.Numbers.{block_no}
 use Rattle.entry.specs.declared.Verdict.{Verdict}
-use Rattle.entry.specs.contracts.Verdict.{the_type}
 use Rattle.entry.specs.Answer.{scan_of, verdict_as}
-use Rattle.entry.proofs.Laws.{others, no-entry}
+use Rattle.entry.proofs.Laws.{no-entry}
 use Rattle.sector.proofs.Answers.{BlockRead, block_read, is-entry}
-use Rattle.sector.proofs.Standing.{Standing, stand-start, stand-below, stand-left, stand-next, stand-end}
+use Rattle.sector.proofs.Standing.{stand-start, stand-below, stand-left, stand-next, stand-end}
 use Rattle.sector.proofs.Laws.{stand-bounded}
 use Rattle.sector.proofs.take_entries.Goals as goal
 use Rattle.sector.proofs.take_entries.Goals.{After-block_by-verdict, After-block_bytes-bytes, In-Entry}
@@ -44,7 +40,9 @@ verdict_on c =
     look B c.args.cycle (scan_of c.loop-next.scan) (get_or (sector_of B c.args.sector.now) c.loop-next.at [])
 
 judged : (c : After-block_by-verdict) → c.block_by-verdict.result ≡ verdict_as (scan_of c.loop-next.scan) (verdict_on c)
-judged c = rw (block-there (record { before = c.before.before.before; type_inv = record { sector = c.shared_slice_known-1.given } })).block at c.block_by-verdict.ensures
+judged c =
+    let there = block_read _ _ _ (omega (arith, stand-below c.loop-next.invariant)) c.requires.sector_len c.new.ensures c.block_bytes-bytes.ensures in
+    rw there.block at c.block_by-verdict.ensures
 
 -- an entry was found there
 found : (c : In-Entry)
@@ -70,7 +68,7 @@ pub overflow_sub-result : goal.overflow_sub-result
 overflow_sub-result c = omega (arith, stand-below c.loop-next.invariant)
 
 pub returns-in_default : goal.returns-in_default
-returns-in_default c = let none = no-entry _ _ (subst (λ (v : Verdict). OneOf others (tag_of the_type v)) (judged (goal.at.returns-in_default c).After-block_by-verdict) c.in_default.keys2) in
+returns-in_default c = let none = no-entry _ _ (λ h s e. c.in_default.not-Entry h s (judged (goal.at.returns-in_default c).After-block_by-verdict ∙ e)) in
     rw (c.blocks-blocks.ensures, judged (goal.at.returns-in_default c).After-block_by-verdict) (stand-end c.loop-next.invariant none)
 
 pub overflow_sub-at : goal.overflow_sub-at

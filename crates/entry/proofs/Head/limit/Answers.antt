@@ -1,7 +1,6 @@
 -- `Head::limit`: each arm knows its head's constructor, at which `limit_of` computes.
 -- Assumes nothing.
 use mathlib.Core.Path.{sym, ap, ◌∙◌}
-use borrow.Author.Rules.{rules}
 use Rattle.layout.specs.Geometry.{blocks_of}
 use Rattle.entry.specs.declared.Head.{Head}
 use Rattle.entry.specs.Answer.{head_of, limit_of}

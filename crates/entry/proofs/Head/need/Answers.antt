@@ -3,7 +3,6 @@
 use mathlib.Core.Path.{sym, ap, ◌∙◌}
 use Prim.Native.Nat.{ℕ, ◌+◌}
 use native.Mathlib.Omega.{arith}
-use borrow.Author.Rules.{rules}
 use Rattle.rules.specs.Look.{need_of}
 use Rattle.entry.specs.declared.Head.{Head}
 use Rattle.entry.specs.Answer.{head_of}

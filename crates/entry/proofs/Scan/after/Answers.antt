@@ -5,7 +5,6 @@ use mathlib.Core.Bool.{or-true, or-false}
 use Prim.Native.Nat.{◌+◌, ◌<◌, ◌^◌}
 use native.Mathlib.Nat.{add-zero}
 use native.Mathlib.Omega.{arith}
-use borrow.Author.Rules.{rules}
 use Rattle.rules.specs.Look.{after, need_of, data_of, is_done}
 use Rattle.entry.specs.declared.Scan.{Scan}
 use Rattle.entry.specs.Answer.{scan_of, scan_as, head_of}

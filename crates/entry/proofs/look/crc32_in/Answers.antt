@@ -1,6 +1,5 @@
 -- `look::crc32_in`: the CRC-32 is read where it lies.
 -- Assumes nothing.
-use borrow.Author.Rules.{rules}
 use Rattle.rules.specs.Entry.{crc32_of}
 use Rattle.entry.proofs.look.crc32_in.Goals as goal
 

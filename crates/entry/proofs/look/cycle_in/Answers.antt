@@ -1,7 +1,6 @@
 -- `look::cycle_in`: the cycle is read where it lies.
 -- Assumes nothing.
 use mathlib.Core.Path.{refl}
-use borrow.Author.Rules.{rules}
 use Rattle.rules.specs.Entry.{cycle_of}
 use Rattle.entry.proofs.look.cycle_in.Goals as goal
 

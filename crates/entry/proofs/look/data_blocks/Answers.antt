@@ -2,7 +2,6 @@
 -- Assumes nothing.
 use native.Mathlib.Omega.{arith}
 use borrow.Author.Tests.{le-leb, lt-leb}
-use borrow.Author.Rules.{rules}
 use Rattle.rules.specs.Look.{data_blocks}
 use Rattle.rules.proofs.Basics.Notation.{if-true, if-false}
 use Rattle.entry.proofs.look.data_blocks.Goals as goal

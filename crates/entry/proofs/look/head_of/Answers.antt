@@ -8,7 +8,6 @@ use native.Mathlib.Omega.{arith}
 use lib.ListN.{drop}
 use lib.Seq.{drop-drop}
 use borrow.Author.Tests.{eq-eqb, ne_eqb, le-leb, lt-leb}
-use borrow.Author.Rules.{rules}
 use Rattle.rules.specs.Notation.{is_erased}
 use Rattle.rules.specs.Ground.{Block}
 use Rattle.rules.specs.Entry.{id_of, length_of, body_of}

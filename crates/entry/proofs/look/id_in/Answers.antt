@@ -1,6 +1,5 @@
 -- `look::id_in`: the ID is read where it lies.
 -- Assumes nothing.
-use borrow.Author.Rules.{rules}
 use Rattle.rules.specs.Entry.{id_of}
 use Rattle.entry.proofs.look.id_in.Goals as goal
 

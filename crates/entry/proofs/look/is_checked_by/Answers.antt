@@ -3,7 +3,6 @@
 use mathlib.Core.Path.{ap, ◌∙◌}
 use lib.Dec.{eqb}
 use lib.ListN.{get_or}
-use borrow.Author.Rules.{rules}
 use Rattle.rules.specs.Checksum.{crc8}
 use Rattle.rules.specs.Entry.{check_of}
 use Rattle.rules.specs.Look.{is_checked}

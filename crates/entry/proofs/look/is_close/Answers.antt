@@ -4,8 +4,6 @@ use mathlib.Core.Bool.{false≢true}
 use mathlib.Core.Path.{sym, ap, ◌∙◌}
 use mathlib.Core.List.{List}
 use Prim.Native.Nat.{ℕ}
-use borrow.Author.Tests.{not-true, not-false}
-use borrow.Author.Rules.{rules}
 use Rattle.rules.specs.Entry.{cycle_of, length_of, id_of, body_of}
 use Rattle.rules.specs.Notation.{is_erased}
 use Rattle.rules.proofs.Format.Look.{no-close, close-body}

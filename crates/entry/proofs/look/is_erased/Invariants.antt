@@ -1,12 +1,9 @@
 -- `look::is_erased`. The loop's invariant: the bytes from i on are erased exactly where all are.
 -- Assumes nothing.
-use mathlib.Core.Path.{◌≡◌, refl, sym, ◌∙◌}
+use mathlib.Core.Path.{◌≡◌}
 use Prim.Native.Nat.{◌-◌}
-use native.Mathlib.Omega.{arith}
 use lib.ListN.{length, drop}
-use borrow.Author.Tests.{eq-eqb, ne_eqb}
 use Rattle.rules.specs.Notation.{is_erased}
-use Rattle.rules.proofs.Basics.Notation.{erased-next, erased-end}
 use Rattle.entry.proofs.look.is_erased.Given as goal
 
 abbrev pub invariant-loop-i : goal.invariant-loop-i

@@ -2,8 +2,6 @@
 -- Assumes nothing.
 use mathlib.Core.Bool.{false≢true}
 use mathlib.Core.Path.{sym, ap, ◌∙◌}
-use borrow.Author.Tests.{not-true, not-false}
-use borrow.Author.Rules.{rules}
 use Rattle.rules.specs.Entry.{cycle_of, length_of, id_of, offset_of, crc32_of}
 use Rattle.rules.proofs.Format.Look.{Leads, no_lead, lead-found}
 use Rattle.entry.specs.Answer.{lead_as}

@@ -1,6 +1,5 @@
 -- `look::length_in`: the length is read where it lies.
 -- Assumes nothing.
-use borrow.Author.Rules.{rules}
 use Rattle.rules.specs.Entry.{length_of}
 use Rattle.entry.proofs.look.length_in.Goals as goal
 

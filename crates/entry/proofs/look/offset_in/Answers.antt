@@ -1,6 +1,5 @@
 -- `look::offset_in`: the offset is read where it lies.
 -- Assumes nothing.
-use borrow.Author.Rules.{rules}
 use Rattle.rules.specs.Entry.{offset_of}
 use Rattle.entry.proofs.look.offset_in.Goals as goal
 

@@ -4,7 +4,6 @@ use mathlib.Core.Path.{sym, ap, ◌∙◌}
 use mathlib.Core.List.{[], ◌∷◌}
 use Prim.Native.Nat.{ℕ}
 use native.Mathlib.Omega.{arith}
-use borrow.Author.Rules.{rules}
 use Rattle.rules.specs.Ground.{max_sectors}
 use Rattle.layout.specs.Numbers.{sector_no}
 use Rattle.mask.specs.Flags.{flags_of, sectors_in}

@@ -1,14 +1,11 @@
 -- `marks::Marks::add` meets its contract: bit n % 64 of word n / 64 is set.
 -- Assumes nothing.
-use mathlib.Core.Path.{◌≡◌, sym, ap, ◌∙◌}
+use mathlib.Core.Path.{◌≡◌, ap, ◌∙◌}
 use mathlib.Core.List.{map}
 use Prim.Native.Nat.{ℕ, ◌+◌, ◌*◌, ◌/◌, ◌%◌, ◌^◌}
 use native.Mathlib.Omega.{arith}
-use borrow.Author.Rules.{rules}
-use borrow.Kind.Array.{e_int, good_length}
-use mir.Syntax.{w64}
 use lib.Bits.{bit_or}
-use lib.ListN.{length, length-map, get_or, set}
+use lib.ListN.{length, get_or, set}
 use lib.Pow.{shl_exact}
 use Rattle.rules.specs.Notation.{concat}
 use Rattle.mask.specs.Flags.{bits_of}

@@ -1,15 +1,11 @@
 -- `marks::Marks::has` meets its contract: bit n % 64 of word n / 64 tells.
 -- Assumes nothing.
-use mathlib.Core.Path.{◌≡◌, sym, ap, ◌∙◌}
-use mathlib.Core.List.{map}
+use mathlib.Core.Path.{◌≡◌, ap, ◌∙◌}
 use Prim.Native.Nat.{ℕ, ◌+◌, ◌*◌, ◌/◌, ◌%◌, ◌^◌}
 use native.Mathlib.Omega.{arith}
-use borrow.Author.Rules.{rules}
-use borrow.Kind.Array.{e_int, good_length}
-use mir.Syntax.{w64}
 use lib.Bits.{and_mask}
 use lib.Dec.{eqb}
-use lib.ListN.{length, length-map, get_or}
+use lib.ListN.{length, get_or}
 use Rattle.mask.specs.Marks.{word_bits, marks_of}
 use Rattle.mask.proofs.Marking.{bit-in-words}
 use Rattle.mask.proofs.marks.Marks.has.Goals as goal
