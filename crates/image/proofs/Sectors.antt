@@ -1,13 +1,11 @@
 -- One sector of an image: its view by its bytes, and its class by its view.
 -- Assumes nothing.
-use mathlib.Core.Path.{◌≡◌, sym, ap, subst, ◌∙◌}
+use mathlib.Core.Path.{◌≡◌, sym, ap, ◌∙◌}
 use mathlib.Core.Bool.{Bool, true, false, not, ◌&&◌}
-use mathlib.Core.List.{List, [], ◌∷◌}
+use mathlib.Core.List.{List, []}
 use Prim.Native.Nat.{ℕ, ◌*◌, ◌<◌}
 use native.Mathlib.Omega.{arith}
 use lib.ListN.{length, get_or, take, drop}
-use types.Run.{OneOf, miss}
-use denote.Enum.Declared.{tag_of}
 use Rattle.rules.specs.Ground.{block_size, sector_of, image_of}
 use Rattle.rules.specs.Look.{start}
 use Rattle.rules.specs.Reading.{Entry, View, view_of, entries_of, after_all}
@@ -20,9 +18,7 @@ use Rattle.layout.specs.declared.Geometry.{Geometry}
 use Rattle.layout.specs.Geometry.{blocks_of, sectors_of}
 use Rattle.entry.specs.Answer.{scan_as}
 use Rattle.sector.specs.declared.Entries.{Entries}
-use Rattle.sector.specs.declared.Class.{Class}
 use Rattle.sector.specs.declared.Class.TheVariants as class
-use Rattle.sector.specs.contracts.Class.{the_type}
 use Rattle.sector.specs.Answer.{entries_as, class_as}
 use Rattle.sector.proofs.Classes.{no-class, class-closed, class-working, class-unfinished}
 use Rattle.image.specs.Answer.{views_in, is_working_class, is_unfinished_class}
@@ -67,10 +63,6 @@ module _ (g : Geometry) (bytes : List ℕ) (s : ℕ) (inside : s < sectors_of g)
 
 -- ---- the class by the view
 
--- by their numbers, the classes that a sector with a right lead can have
-abbrev pub led_classes : List ℕ
-led_classes = 0 ∷ 1 ∷ 2 ∷ []
-
 module _ (view : View) where
   module _ (led : view.led ≡ true) where
     pub working-by : is_working_class (class_as view) ≡ is_working view
@@ -106,7 +98,5 @@ module _ (view : View) where
       (λ undone. let z : ◌≡◌ {A = ℕ} 0 1 = cc (class-unfinished view led unclosed undone, e) in absurd (omega arith))))
       (λ wrong. wrong)
 
-  pub told-led : OneOf led_classes (tag_of the_type (class_as view)) → view.led ≡ true
-  told-led told =
-      by-test view.led (λ led. led)
-      (λ wrong. absurd (miss led_classes 3 tt (subst (λ (x : Class). OneOf led_classes (tag_of the_type x)) (no-class view wrong) told)))
+  pub told-led : (class_as view ≡ class.NoLead → ⊥) → view.led ≡ true
+  told-led told = by-test view.led (λ led. led) (λ wrong. absurd (told (no-class view wrong)))

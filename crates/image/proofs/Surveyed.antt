@@ -1,6 +1,6 @@
 -- A survey under way: what is known once the sectors below s are read, how it goes on, and what it comes to.
 -- Assumes nothing.
-use mathlib.Core.Path.{◌≡◌, sym, ap, ◌∙◌}
+use mathlib.Core.Path.{◌≡◌, sym, ◌∙◌}
 use mathlib.Core.Bool.{Bool, true, false, false≢true}
 use mathlib.Core.List.{List, [], ◌∷◌, map}
 use mathlib.Core.Logic.{⊎_elim}
@@ -9,12 +9,12 @@ use Prim.Native.Nat.{ℕ, ◌+◌, ◌≤◌, ◌<◌}
 use native.Mathlib.Omega.{arith}
 use lib.ListN.{length, get_or, set, take}
 use lib.Seq.{take_all}
-use Rattle.rules.specs.Notation.{if◌then◌else◌, all, places_from}
+use Rattle.rules.specs.Notation.{all, places_from}
 use Rattle.rules.specs.Ground.{max_sectors}
 use Rattle.rules.specs.Reading.{View}
 use Rattle.rules.specs.Meaning.{no_view, view_at, is_working, is_unfinished, state_by, state_of}
 use Rattle.rules.proofs.Basics.Notation.{if-true, if-false, if-cases, refuted}
-use Rattle.rules.proofs.Basics.Places.{Only, all-each, each_all, one_place, here-or}
+use Rattle.rules.proofs.Basics.Places.{all-each, each_all, one_place, here-or}
 use Rattle.mask.specs.declared.Mask.{Mask}
 use Rattle.mask.specs.Flags.{flags_of, sectors_in, Holds}
 use Rattle.mask.proofs.Laws.{survey-added, survey-passed, tested-places}

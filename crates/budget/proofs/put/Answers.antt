@@ -7,7 +7,6 @@ use Prim.Native.Nat.{ℕ, ◌-◌, ◌≤◌}
 use native.Mathlib.Omega.{arith}
 use lib.ListN.{take}
 use lib.Seq.{take_all}
-use borrow.Author.Rules.{rules}
 use borrow.Author.Tests.{lt-ltb, le-ltb}
 use Rattle.rules.specs.Ground.{store_bytes}
 use Rattle.rules.specs.Stores.{Store, apply_bytes}
@@ -21,8 +20,7 @@ use Rattle.budget.specs.declared.Last.TheVariants as last
 use Rattle.budget.specs.declared.Budget.{Budget}
 use Rattle.budget.specs.Budget.{store_of, last_of, spent, Did}
 use Rattle.budget.proofs.Spent.{same-budget, kind-as-of}
-use Rattle.budget.proofs.put.Statement.{statement}
-use Rattle.budget.proofs.put.Tie as tie
+use Rattle.budget.proofs.put.Goals as goal
 
 did_nothing : (g : Geometry) (before : List ℕ) (st : Store) (b : Budget) → b.left ≡ 0
     → Did g before (st ∷ []) b before (record { left = b.left; cut = true; last = b.last })
@@ -49,24 +47,10 @@ did-store g before s at k bytes b some stored =
           (ap (last.Store s at) (sym (kind-as-of k)) ∙ ap (last_of b.last) (sym whole));
     }
 
-returns : tie.Need-returns
+pub returns-then-left-eq0 : goal.returns-then-left-eq0
+returns-then-left-eq0 c =
+    did_nothing c.args.g c.args.image.now (store_of c.args.s c.args.b c.args.kind c.args.bytes) c.args.budget c.if-left-eq0.true
+
+pub returns : goal.returns
 returns c =
-    let args = c.before.before.args in
-    did_nothing args.g args.image.now (store_of args.s args.b args.kind args.bytes) args.budget c.if1.true
-
-store-block-requires : tie.Need-store-block-requires
-store-block-requires c κs = search rules
-
-sub-left : tie.Need-overflow-sub-left
-sub-left c = search rules
-
-same_length : tie.Need-same-length
-same_length c = search rules
-
-returns-2 : tie.Need-returns-2
-returns-2 c =
-    let args = c.before.before.before.before.before.before.args in
-    did-store args.g args.image.now args.s args.b args.kind args.bytes args.budget (omega arith) c.before.before.store-block.ensures
-
-pub put_spec : {M : Type 1} → statement M
-put_spec = tie.close (tie.spec returns store-block-requires sub-left same_length returns-2)
+    did-store c.args.g c.args.image.now c.args.s c.args.b c.args.kind c.args.bytes c.args.budget (omega arith) c.store_block.ensures
