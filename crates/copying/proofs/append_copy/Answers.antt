@@ -53,15 +53,15 @@ block-is : (c : After-block_of-block) → c.block_of-block.result ≡ block_from
 block-is c = rw (c.new.ensures, c.blocks-2.ensures) at c.block_of-block.ensures
 
 -- what is carried of the other sector
-carried : (c : Start) → Carries c.args.g c.args.image.now c.args.active
-carried c = c.requires.carries
+carried : (k : Start) → Carries k.args.g k.args.image.now k.args.active
+carried k = k.requires.carries
 
 module _ (c : After-source_of-source) where
-  source_is : c.source_of-source.result ≡ source_as (block_from c)
-  source_is = c.source_of-source.ensures ∙ ap source_as (block-is c)
+  source_is : c.source_of-source.result ≡ source_as (block_from c.before.before.before.before.before.before)
+  source_is = c.source_of-source.ensures ∙ ap source_as (block-is c.before.before)
 
-  head-is : (entry_from c).head ≡ value c.source_of-source.result.id c.source_of-source.result.length
-  head-is = (told c).head ∙ ap (λ (x : Source). value x.id x.length) (sym source_is)
+  head-is : (entry_from c.before.before.before.before.before.before).head ≡ value c.source_of-source.result.id c.source_of-source.result.length
+  head-is = (told c.before.before.before.before.before).head ∙ ap (λ (x : Source). value x.id x.length) (sym source_is)
 
   -- the entry fits in the other sector
   within : 
@@ -73,39 +73,39 @@ module _ (c : After-source_of-source) where
   fitting : Fits (blocks_of c.args.g) c.args.active (head.Value c.source_of-source.result.id c.source_of-source.result.length)
   fitting =
       
-      fits c.args.g c.args.image.now (sector_no c.args.active.sector) c.requires.backs.sound (carried c).inside (carried c).told (head.Value _ _) within
+      fits c.args.g c.args.image.now (sector_no c.args.active.sector) c.requires.backs.sound (carried c.before.before.before.before.before.before).inside (carried c.before.before.before.before.before.before).told (head.Value _ _) within
 
   -- its data blocks: where they lie, and where they go
-  count-is : data_blocks c.source_of-source.result.length ≡ data_blocks (length_of (block_from c))
+  count-is : data_blocks c.source_of-source.result.length ≡ data_blocks (length_of (block_from c.before.before.before.before.before.before))
   count-is = ap (λ (x : Source). data_blocks x.length) source_is
 
-  first-is : c.source_of-source.result.first ≡ first_of (block_from c)
+  first-is : c.source_of-source.result.first ≡ first_of (block_from c.before.before.before.before.before.before)
   first-is = ap (λ (x : Source). x.first) source_is
 
   blocks-are : 
-      take (data_blocks c.source_of-source.result.length) (drop c.source_of-source.result.first (sector_from c)) ≡ (entry_from c).blocks
+      take (data_blocks c.source_of-source.result.length) (drop c.source_of-source.result.first (sector_from c.before.before.before.before.before.before)) ≡ (entry_from c.before.before.before.before.before.before).blocks
   blocks-are =
       
-      ap₂ (λ (n m : ℕ). take n (drop m (sector_from c))) count-is first-is ∙ sym (told c).blocks
+      ap₂ (λ (n m : ℕ). take n (drop m (sector_from c.before.before.before.before.before.before))) count-is first-is ∙ sym (told c.before.before.before.before.before).blocks
 
   source-inside : c.source_of-source.result.first + data_blocks c.source_of-source.result.length ≤ blocks_of c.args.g
-  source-inside = omega (arith, count-is, first-is, (told c).inside)
+  source-inside = omega (arith, count-is, first-is, (told c.before.before.before.before.before).inside)
 
   target-inside : c.args.active.scan.data_end + data_blocks c.source_of-source.result.length ≤ blocks_of c.args.g
   unfolding data_of
   target-inside =
       
-      omega (arith, room c.args.g c.args.image.now (sector_no c.args.active.sector) c.requires.backs.sound (carried c).inside (carried c).told (head.Value _ _) within)
+      omega (arith, room c.args.g c.args.image.now (sector_no c.args.active.sector) c.requires.backs.sound (carried c.before.before.before.before.before.before).inside (carried c.before.before.before.before.before.before).told (head.Value _ _) within)
 
   lie : 
-      Each (Lies (blocks_of c.args.g) (sectors_of c.args.g)) (data_stores (sector_no c.args.active.sector) c.args.active.scan.data_end (entry_from c).blocks)
+      Each (Lies (blocks_of c.args.g) (sectors_of c.args.g)) (data_stores (sector_no c.args.active.sector) c.args.active.scan.data_end (entry_from c.before.before.before.before.before.before).blocks)
   lie =
       
       let n : ℕ = data_blocks c.source_of-source.result.length in
       let m : ℕ = c.source_of-source.result.first in
       let number = source-count c.args.g c.args.image.now (sector_no c.args.from) m n c.requires.backs c.requires.from_bound source-inside in
       subst (λ (bs : List Block). Each (Lies (blocks_of c.args.g) (sectors_of c.args.g)) (data_stores (sector_no c.args.active.sector) c.args.active.scan.data_end bs)) blocks-are
-      (data-lie (blocks_of c.args.g) (sectors_of c.args.g) (sector_no c.args.active.sector) c.args.active.scan.data_end (carried c).inside (rw number target-inside)
+      (data-lie (blocks_of c.args.g) (sectors_of c.args.g) (sector_no c.args.active.sector) c.args.active.scan.data_end (carried c.before.before.before.before.before.before).inside (rw number target-inside)
       (source-sized c.args.g c.args.image.now (sector_no c.args.from) m n c.requires.backs c.requires.from_bound source-inside))
 
 -- and they were laid there
@@ -150,6 +150,6 @@ returns c =
     let written =
     c.copied-bytes.ensures
     ∙ ap (copy_of c.args.active.cycle c.args.active.scan.data_end) (block-is (goal.at.returns c).After-block_of-block)
-    ∙ sym ((told (goal.at.returns c).Start).bytes c.args.active.cycle c.args.active.scan.data_end) in
+    ∙ sym ((told (goal.at.returns c).After-slice_known-1).bytes c.args.active.cycle c.args.active.scan.data_end) in
     let stored = rw (sym (head-is (goal.at.returns c).After-source_of-source)) at c.put_entry.ensures.did in record { did = append-did c.args.g c.args.image.now (sector_no c.args.active.sector) c.requires.backs.sound (carried (goal.at.returns c).Start).inside (carried (goal.at.returns c).Start).told (entry_from (goal.at.returns c).Start) (laid (goal.at.returns c).After-copy_data-laid)
           c.requires.backs (lie (goal.at.returns c).After-source_of-source) c.if-laid.false written stored; active = λ whole. c.put_entry.ensures.active ∙ ap (with_entry c.args.active) (sym (head-is (goal.at.returns c).After-source_of-source)) }

@@ -8,4 +8,4 @@ use Rattle.copying.proofs.block_of.Goals as goal
 
 pub returns : goal.returns
 returns c = let block = c.block_at in
-    c.data_block.ensures ∙ take_at block.result.now (erased block_size) block_size block.ensures.1 ∙ block.ensures.0
+    c.data_block.ensures ∙ take_at block.result.now (erased block_size) block_size block.ensures.size ∙ block.ensures.block

@@ -19,7 +19,7 @@ use Rattle.append.proofs.Appending.{blocks_in}
 use Rattle.copying.proofs.Copying.{source-count, source-block, source-sized, source_stays}
 use Rattle.copying.proofs.copy_data.Goals as goal
 use Rattle.copying.proofs.copy_data.Invariants.{blocks_from}
-use Rattle.copying.proofs.copy_data.Goals.{After-data_blocks-count, After-put-stored, At-loop-k}
+use Rattle.copying.proofs.copy_data.Goals.{After-put-stored, At-loop-k}
 
 -- so many blocks lie in both sectors
 bounds : (l : At-loop-k)
@@ -56,10 +56,10 @@ more c =
     
     
     let few : c.loop-k.k < c.data_blocks-count.result = c.loop-k-test.true in
-    let count = source-count c.args.g c.args.image.now (sector_no c.args.from) c.args.source.first c.data_blocks-count.result c.requires.backs c.requires.from_bound (bounds (record { before = c.before.before.before.before.before.before.before; type_inv = record { image = c.slice_known-1.given } })).0 in
-    let same = source-block c.args.g c.args.image.now (sector_no c.args.from) c.args.source.first c.data_blocks-count.result c.requires.backs c.requires.from_bound (bounds (record { before = c.before.before.before.before.before.before.before; type_inv = record { image = c.slice_known-1.given } })).0 c.loop-k.k few in
+    let count = source-count c.args.g c.args.image.now (sector_no c.args.from) c.args.source.first c.data_blocks-count.result c.requires.backs c.requires.from_bound (bounds c.before.before.before.before.before.before).0 in
+    let same = source-block c.args.g c.args.image.now (sector_no c.args.from) c.args.source.first c.data_blocks-count.result c.requires.backs c.requires.from_bound (bounds c.before.before.before.before.before.before).0 c.loop-k.k few in
     let block =
-    rw (c.new.ensures, stays (record { before = c.before.before.before.before.before.before.before; type_inv = record { image = c.slice_known-1.given } })) at c.block_of-block.ensures ∙ sym same in
+    rw (c.new.ensures, stays c.before.before.before.before.before.before) at c.block_of-block.ensures ∙ sym same in
     let stored = rw (c.new-in-loop-k.ensures, block) at c.put-stored.ensures in
     data-more (sector_no c.args.active.sector) c.args.active.scan.data_end _ c.loop-k.k c.loop-k.invariant.1 (omega (arith, count, few)) stored
 
@@ -70,25 +70,21 @@ loop-k-init c =
 
 pub overflow_add-begin : goal.overflow_add-begin
 overflow_add-begin c =
-    omega (arith, c.loop-k-test.true, (bounds (goal.at.overflow_add-begin c).After-data_blocks-count).0, c.requires.backs.sound.blocks_to)
+    omega (arith, c.loop-k-test.true, (bounds (goal.at.overflow_add-begin c).At-loop-k).0, c.requires.backs.sound.blocks_to)
 
 pub block_of-block-requires : goal.block_of-block-requires
 block_of-block-requires c =
-    let low : block_no c.new.result < blocks_of c.args.g = omega (arith, ap block_no c.new.ensures, c.loop-k-test.true, (bounds (goal.at.block_of-block-requires c).After-data_blocks-count).0) in
+    let low : block_no c.new.result < blocks_of c.args.g = omega (arith, ap block_no c.new.ensures, c.loop-k-test.true, (bounds (goal.at.block_of-block-requires c).At-loop-k).0) in
     record { backs = did-backs c.loop-k.invariant.1 c.requires.backs; s_bound = c.requires.from_bound; b_bound = low }
 
 pub overflow_add-first : goal.overflow_add-first
 overflow_add-first c =
-    omega (arith, c.loop-k-test.true, (bounds (goal.at.overflow_add-first c).After-data_blocks-count).1, c.requires.backs.sound.blocks_to)
+    omega (arith, c.loop-k-test.true, (bounds (goal.at.overflow_add-first c).At-loop-k).1, c.requires.backs.sound.blocks_to)
 
 pub put-stored-requires : goal.put-stored-requires
 put-stored-requires c =
-    let low : block_no c.new-in-loop-k.result < blocks_of c.args.g = omega (arith, ap block_no c.new-in-loop-k.ensures, c.loop-k-test.true, (bounds (goal.at.put-stored-requires c).After-data_blocks-count).1) in
+    let low : block_no c.new-in-loop-k.result < blocks_of c.args.g = omega (arith, ap block_no c.new-in-loop-k.ensures, c.loop-k-test.true, (bounds (goal.at.put-stored-requires c).At-loop-k).1) in
     record { backs = did-backs c.loop-k.invariant.1 c.requires.backs; s_bound = c.requires.sector_bound; b_bound = low }
-
-pub shape_of-image-then-stored : goal.shape_of-image-then-stored
-shape_of-image-then-stored c =
-    (did-backs (more (goal.at.shape_of-image-then-stored c).After-put-stored) c.requires.backs).sized ∙ sym c.requires.backs.sized
 
 pub returns-then-stored : goal.returns-then-stored
 returns-then-stored c =
@@ -103,10 +99,6 @@ loop-k-smaller c = omega (arith, c.loop-k-test.true)
 
 pub loop-k-preserved : goal.loop-k-preserved
 loop-k-preserved c = (omega (arith, c.loop-k-test.true), more (goal.at.loop-k-preserved c).After-put-stored)
-
-pub shape_of-image : goal.shape_of-image
-shape_of-image c =
-    (did-backs c.loop-k.invariant.1 c.requires.backs).sized ∙ sym c.requires.backs.sized
 
 pub returns : goal.returns
 returns c =
