@@ -3,7 +3,6 @@
 use mathlib.Core.Path.{◌≡◌, sym, ap, ◌∙◌}
 use mathlib.Core.Bool.{Bool, true, false, not, ◌&&◌}
 use mathlib.Core.List.{List}
-use mathlib.Core.Logic.{⊎_elim}
 use Prim.Native.Nat.{ℕ, ◌-◌, ◌<◌, ◌≤◌}
 use native.Mathlib.Omega.{arith}
 use lib.ListN.{length, get_or, set}
@@ -22,7 +21,7 @@ use Rattle.live.proofs.LiveLaws.{length-live-in}
 use Rattle.live.proofs.LiveEntries.{entries_at}
 use Rattle.live.proofs.RenewedLaws.{live-by-renewed}
 use Rattle.live.proofs.marks.Goals as goal
-use Rattle.live.proofs.marks.Goals.{After-is_live, After-number-number}
+use Rattle.live.proofs.marks.Goals.{then-is_live, else-is_live, After-is_live, After-number-number}
 
 low : (c : After-number-number) → c.number-number.result < 64
 low c = omega (arith, c.number-number.ensures, c.requires.s_bound, c.requires.backs.sound.sectors_to)
@@ -91,12 +90,14 @@ loop-n-preserved c =
           let flags = live_flags_in u (sector_no c.args.s) (views_in c.args.g c.args.image.now) in
           let room : length flags ≤ max_marks = omega (arith, few (goal.at.loop-n-preserved c).After-number-number, flags-count (goal.at.loop-n-preserved c).After-number-number u) in
           let here : n < length flags = omega (arith, c.loop-n-test.true, flags-count (goal.at.loop-n-preserved c).After-number-number u) in
-          ⊎_elim
-          (λ t.
-          ap marks_of t.2 ∙ t.1.ensures ∙ ap (λ (m : List Bool). set m n true) (c.loop-n.invariant.1 u same)
-          ∙ padded-set max_marks flags room n here (sym (told (goal.at.loop-n-preserved c).After-is_live u same) ∙ t.0.taken))
-          (λ f. ap marks_of f.1 ∙ c.loop-n.invariant.1 u same ∙ padded-kept max_marks flags room n here (sym (told (goal.at.loop-n-preserved c).After-is_live u same) ∙ f.0.left))
-          c.if-is_live.branch),
+          elim c.if-is_live.branch [
+            then-is_live w ↦
+              ap marks_of w.live-is ∙ w.add-live.ensures ∙ ap (λ (m : List Bool). set m n true) (c.loop-n.invariant.1 u same)
+              ∙ padded-set max_marks flags room n here (sym (told (goal.at.loop-n-preserved c).After-is_live u same) ∙ w.if-is_live.true)
+          | else-is_live w ↦
+              ap marks_of w.live-is ∙ c.loop-n.invariant.1 u same
+              ∙ padded-kept max_marks flags room n here (sym (told (goal.at.loop-n-preserved c).After-is_live u same) ∙ w.if-is_live.false)
+          ]),
     )
 
 pub returns : goal.returns

@@ -1,14 +1,16 @@
 -- `live::needs`: the invariant is that the sum and the needs from entry i on are the live needs.
 -- Assumes nothing.
 use mathlib.Core.Path.{◌≡◌, sym, ap, ◌∙◌}
-use mathlib.Core.Bool.{Bool, false}
+use mathlib.Core.Bool.{true, Bool, false}
 use mathlib.Core.List.{List}
-use mathlib.Core.Logic.{⊎_elim}
 use Prim.Native.Nat.{ℕ, ◌+◌, ◌-◌, ◌<◌}
 use native.Mathlib.Omega.{arith}
 use lib.ListN.{length, get_or}
+use Rattle.rules.specs.Look.{data_blocks}
+use Rattle.rules.specs.Entry.{length_of}
+use Rattle.rules.specs.Ground.{image_of, block_at}
 use Rattle.rules.specs.Meaning.{view_at, next, live_in, needs_of}
-use Rattle.layout.specs.Geometry.{sectors_of}
+use Rattle.layout.specs.Geometry.{sectors_of, blocks_of}
 use Rattle.layout.specs.Numbers.{sector_no}
 use Rattle.mask.specs.Flags.{padded}
 use Rattle.mask.specs.Marks.{max_marks, marks_of}
@@ -19,7 +21,7 @@ use Rattle.image.proofs.EntryBlocks.{entry-low, entries-few}
 use Rattle.live.proofs.Counting.{entries-noted}
 use Rattle.live.proofs.LiveNeeds.{needs_from, needs-all, needs-here, needs-passed, needs-none, needs-few}
 use Rattle.live.proofs.needs.Goals as goal
-use Rattle.live.proofs.needs.Goals.{After-has, After-number-number, After-value_need-sum, In-loop-i}
+use Rattle.live.proofs.needs.Goals.{then-has, else-has, After-has, After-number-number, In-loop-i}
 
 low : (c : After-number-number) → c.number-number.result < 64
 low c = omega (arith, c.number-number.ensures, c.requires.s_bound, c.requires.backs.sound.sectors_to)
@@ -50,16 +52,15 @@ told c u same =
     ∙ padded-at max_marks _ c.loop-i.i (marked (record { before = c.before.before; type_inv = record { image = c.type_inv.image } }))
 
 -- with the need of entry i the sum is still below the live needs
-more : (c : After-value_need-sum) (u : ℕ) → 
-    marks_of c.marks-live.result ≡ padded max_marks (live_flags_in u (sector_no c.args.s) (views_in c.args.g c.args.image.now))
-    → c.loop-i.sum + c.value_need-sum.result + needs_from u (sector_no c.args.s) (views_in c.args.g c.args.image.now) (c.loop-i.i + 1)
+more : (c : After-has) (need u : ℕ) → c.has.result ≡ true
+    → need ≡ 1 + data_blocks (length_of (block_at (image_of (blocks_of c.args.g) (sectors_of c.args.g) c.args.image.now) (sector_no c.args.s) (blocks_of c.args.g - 3 - c.loop-i.i)))
+    → marks_of c.marks-live.result ≡ padded max_marks (live_flags_in u (sector_no c.args.s) (views_in c.args.g c.args.image.now))
+    → c.loop-i.sum + need + needs_from u (sector_no c.args.s) (views_in c.args.g c.args.image.now) (c.loop-i.i + 1)
     ≡ needs_of (live_in u (sector_no c.args.s) (views_in c.args.g c.args.image.now))
-more c u same =
-    
-    
-    let live = sym (told (record { before = c.before.before.before; type_inv = record { image = c.type_inv.image } }) u same) ∙ c.if-has.true in
-    let here = needs-here c.args.g c.args.image.now c.requires.backs u (sector_no c.args.s) c.requires.s_bound c.loop-i.i (inside (record { before = c.before.before.before.before; type_inv = record { image = c.type_inv.image } })) live in
-    omega (arith, here, c.value_need-sum.ensures, c.loop-i.invariant.1 u same)
+more c need u has is same =
+    let here = inside (record { before = c.before.before; type_inv = record { image = c.type_inv.image } }) in
+    let step = needs-here c.args.g c.args.image.now c.requires.backs u (sector_no c.args.s) c.requires.s_bound c.loop-i.i here (sym (told c u same) ∙ has) in
+    omega (arith, step, is, c.loop-i.invariant.1 u same)
 
 pub offset_bounds-counts-number : goal.offset_bounds-counts-number
 offset_bounds-counts-number c = omega (arith, low (goal.at.offset_bounds-counts-number c).After-number-number)
@@ -87,7 +88,7 @@ pub overflow_add-sum : goal.overflow_add-sum
 overflow_add-sum c =
     let u : ℕ = next (sectors_of c.args.g) (sector_no c.args.w) in
     let few = needs-few c.args.g c.args.image.now c.requires.backs u (sector_no c.args.s) c.requires.s_bound in
-    omega (arith, more (goal.at.overflow_add-sum c).After-value_need-sum u c.marks-live.ensures, few, c.requires.backs.sound.blocks_to)
+    omega (arith, more (goal.at.overflow_add-sum c).After-has c.value_need-sum.result u c.if-has.true c.value_need-sum.ensures c.marks-live.ensures, few, c.requires.backs.sound.blocks_to)
 
 pub overflow_add-i : goal.overflow_add-i
 overflow_add-i c = omega (arith, marked (goal.at.overflow_add-i c).In-loop-i)
@@ -100,13 +101,15 @@ loop-i-preserved c =
     (
       omega (arith, c.loop-i-test.true),
       (λ u same.
-          ⊎_elim
-          (λ t. omega (arith, t.2, more (record { before = record { before = (goal.at.loop-i-preserved c).After-has; if1 = t.0 }; «value-need» = t.1 }) u same))
-          (λ f.
-          let dead = sym (told (goal.at.loop-i-preserved c).After-has u same) ∙ f.0.left in
-          let passed = needs-passed u (sector_no c.args.s) (views_in c.args.g c.args.image.now) c.loop-i.i (inside (goal.at.loop-i-preserved c).In-loop-i) dead in
-          omega (arith, f.1, passed, c.loop-i.invariant.1 u same))
-          c.if-has.branch),
+          elim c.if-has.branch [
+            then-has w ↦
+              let step = more (goal.at.loop-i-preserved c).After-has w.value_need-sum.result u w.if-has.true w.value_need-sum.ensures same in
+              omega (arith, w.sum-is, step)
+          | else-has w ↦
+              let dead = sym (told (goal.at.loop-i-preserved c).After-has u same) ∙ w.if-has.false in
+              let passed = needs-passed u (sector_no c.args.s) (views_in c.args.g c.args.image.now) c.loop-i.i (inside (goal.at.loop-i-preserved c).In-loop-i) dead in
+              omega (arith, w.sum-is, passed, c.loop-i.invariant.1 u same)
+          ]),
     )
 
 pub returns : goal.returns

@@ -38,7 +38,7 @@ inside : (c : At-loop-g) →
     sector_no c.loop-g.t < sectors_of c.args.g
 inside c =
     
-    omega (arith, passing-inside (spare-inside (record { before = c.before.before.before; type_inv = record { links = c.type_inv.links; heads = c.type_inv.heads; image = c.type_inv.image } })) c.loop-g.invariant.1, views-count c.args.g c.args.image.now)
+    omega (arith, passing-inside (spare-inside (record { before = c.before.before.before; type_inv = record { links = c.shared_slice_known-3-1.given; heads = c.shared_slice_known-2-1.given; image = c.shared_slice_known-1.given } })) c.loop-g.invariant.1, views-count c.args.g c.args.image.now)
 
 low : (c : After-number-number) → c.number-number.result < 64
 low c =

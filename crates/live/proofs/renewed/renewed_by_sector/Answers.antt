@@ -2,7 +2,6 @@
 -- Assumes nothing.
 use mathlib.Core.Path.{sym, ap, ◌∙◌}
 use mathlib.Core.List.{List, ◌++◌, append-nil}
-use mathlib.Core.Logic.{⊎_elim}
 use Prim.Native.Nat.{◌-◌, ◌<◌, ◌≤◌}
 use native.Mathlib.Omega.{arith}
 use lib.ListN.{length}
@@ -16,7 +15,7 @@ use Rattle.image.proofs.EntryBlocks.{entries-few}
 use Rattle.live.proofs.LiveEntries.{entries_at}
 use Rattle.live.proofs.RenewedMarks.{hit-below, mark-found, mark-missed, newer-next}
 use Rattle.live.proofs.renewed.renewed_by_sector.Goals as goal
-use Rattle.live.proofs.renewed.renewed_by_sector.Goals.{In-loop-n}
+use Rattle.live.proofs.renewed.renewed_by_sector.Goals.{in-At, in_default, In-loop-n}
 
 -- in a turn entry n is one of sector t
 inside : (c : In-loop-n) → 
@@ -51,10 +50,10 @@ loop-n-preserved c =
       (λ later same.
           newer-next (entries_at c.args.g c.args.image.now c.args.s) c.requires.count_value later (entries_at c.args.g c.args.image.now c.args.t) c.loop-n.n
           (inside (goal.at.loop-n-preserved c).In-loop-n) (c.loop-n.invariant.1 later same)
-          (⊎_elim
-          (λ hit. ap marks_of hit.4 ∙ hit.3.ensures ∙ mark-found _ _ (told ∙ hit.1.given.1))
-          (λ missed. ap marks_of missed.2 ∙ mark-missed _ _ (told ∙ missed.1.given.1))
-          c.match-hit.branch)),
+          (elim c.match-hit.branch [
+            in-At w ↦ ap marks_of w.renewed-is ∙ w.add-renewed.ensures ∙ mark-found _ _ (told ∙ w.in-At.is)
+          | in_default w ↦ ap marks_of w.renewed-is ∙ mark-missed _ _ (told ∙ w.in_default.is)
+          ])),
     )
 
 pub returns : goal.returns

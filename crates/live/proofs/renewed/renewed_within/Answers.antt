@@ -2,7 +2,6 @@
 -- Assumes nothing.
 use mathlib.Core.Path.{◌≡◌, sym, ap, ◌∙◌}
 use mathlib.Core.List.{List, []}
-use mathlib.Core.Logic.{⊎_elim}
 use Prim.Native.Nat.{◌-◌, ◌<◌, ◌≤◌}
 use native.Mathlib.Omega.{arith}
 use lib.ListN.{length}
@@ -16,7 +15,7 @@ use Rattle.image.proofs.EntryBlocks.{entries-few}
 use Rattle.live.proofs.LiveEntries.{entries_at}
 use Rattle.live.proofs.RenewedMarks.{hit-below, mark-found, mark-missed, within-next}
 use Rattle.live.proofs.renewed.renewed_within.Goals as goal
-use Rattle.live.proofs.renewed.renewed_within.Goals.{After-none-renewed, In-loop-n}
+use Rattle.live.proofs.renewed.renewed_within.Goals.{in-At, in_default, In-loop-n}
 
 -- in a turn entry n is one of the sector's, and has a mark
 inside : (c : In-loop-n) → 
@@ -35,19 +34,19 @@ loop-n-init c = (omega arith, c.requires.indexes, c.none-renewed.ensures)
 
 pub renewed_entry-hit-requires : goal.renewed_entry-hit-requires
 renewed_entry-hit-requires c =
-    record { backs = c.requires.backs; s_bound = c.requires.s_bound; indexes = c.loop-n.invariant.1; t_bound = c.requires.s_bound; n_in_bounds = inside (goal.at.renewed_entry-hit-requires c).After-none-renewed }
+    record { backs = c.requires.backs; s_bound = c.requires.s_bound; indexes = c.loop-n.invariant.1; t_bound = c.requires.s_bound; n_in_bounds = inside (goal.at.renewed_entry-hit-requires c).In-loop-n }
 
 pub add-renewed-requires : goal.add-renewed-requires
 add-renewed-requires c =
-    omega (arith, hit-below _ _ _ (sym c.renewed_entry-hit.ensures ∙ c.in-At.is), inside (goal.at.add-renewed-requires c).After-none-renewed, few (goal.at.add-renewed-requires c).After-none-renewed)
+    omega (arith, hit-below _ _ _ (sym c.renewed_entry-hit.ensures ∙ c.in-At.is), inside (goal.at.add-renewed-requires c).In-loop-n, few (goal.at.add-renewed-requires c).In-loop-n)
 
 pub add-requires : goal.add-requires
 add-requires c =
-    record { backs = c.requires.backs; s_bound = c.requires.s_bound; n_in_bounds = inside (goal.at.add-requires c).After-none-renewed; indexes = c.loop-n.invariant.1 }
+    record { backs = c.requires.backs; s_bound = c.requires.s_bound; n_in_bounds = inside (goal.at.add-requires c).In-loop-n; indexes = c.loop-n.invariant.1 }
 
 pub overflow_add-n : goal.overflow_add-n
 overflow_add-n c =
-    omega (arith, inside (goal.at.overflow_add-n c).After-none-renewed, few (goal.at.overflow_add-n c).After-none-renewed)
+    omega (arith, inside (goal.at.overflow_add-n c).In-loop-n, few (goal.at.overflow_add-n c).In-loop-n)
 
 pub loop-n-smaller : goal.loop-n-smaller
 loop-n-smaller c = omega (arith, c.loop-n-test.true)
@@ -57,11 +56,11 @@ loop-n-preserved c =
     let told = sym c.renewed_entry-hit.ensures in (
       omega (arith, c.loop-n-test.true),
       c.add.ensures,
-      within-next (entries_at c.args.g c.args.image.now c.args.s) c.loop-n.n (inside (goal.at.loop-n-preserved c).After-none-renewed) (omega (arith, few (goal.at.loop-n-preserved c).After-none-renewed)) c.loop-n.invariant.2
-          (⊎_elim
-          (λ hit. ap marks_of hit.4 ∙ hit.3.ensures ∙ mark-found _ _ (told ∙ hit.1.given.1))
-          (λ missed. ap marks_of missed.2 ∙ mark-missed _ _ (told ∙ missed.1.given.1))
-          c.match-hit.branch),
+      within-next (entries_at c.args.g c.args.image.now c.args.s) c.loop-n.n (inside (goal.at.loop-n-preserved c).In-loop-n) (omega (arith, few (goal.at.loop-n-preserved c).In-loop-n)) c.loop-n.invariant.2
+          (elim c.match-hit.branch [
+            in-At w ↦ ap marks_of w.renewed-is ∙ w.add-renewed.ensures ∙ mark-found _ _ (told ∙ w.in-At.is)
+          | in_default w ↦ ap marks_of w.renewed-is ∙ mark-missed _ _ (told ∙ w.in_default.is)
+          ]),
     )
 
 pub shape_of-heads : goal.shape_of-heads
