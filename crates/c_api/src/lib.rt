@@ -87,7 +87,7 @@ pub extern "C" fn gust_read(
 ) -> u32
     ensures answer { Tells (rule.reply_numbers (rule.read sector_size count image.now id (length buffer.old))) numbers.old numbers.new result }
     ensures buffer { buffer.new ≡ rule.buffer_after (rule.read sector_size count image.now id (length buffer.old)) buffer.old }
-    ensures image { image.now ≡ image.now }
+    ensures image { image.exit.now ≡ image.entry.now }
 {
     let reply = store::read(image, sector_size, count, id, buffer);
     tell_reply(reply, numbers)
@@ -106,7 +106,7 @@ pub extern "C" fn gust_write(
 ) -> u32
     ensures answer { Tells (rule.answer_numbers (rule.answer (rule.write_due sector_size count image.old id value.now) allowance)) numbers.old numbers.new result }
     ensures image { image.new ≡ rule.leaves sector_size (rule.write_due sector_size count image.old id value.now) allowance image.old }
-    ensures value { value.now ≡ value.now }
+    ensures value { value.exit.now ≡ value.entry.now }
 {
     let outcome = store::write(image, sector_size, count, id, value, allowance);
     let answer = outcome.answer;

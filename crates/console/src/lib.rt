@@ -32,7 +32,7 @@ pub fn call(
     allowance: u32,
 ) -> Outcome
     ensures outcome { Leaves sector_size (due_of sector_size count command value.now image.old) allowance image.old image.new result }
-    ensures value { value.now ≡ value.now }
+    ensures value { value.exit.now ≡ value.entry.now }
 {
     match command {
         Command::Format => store::format(image, sector_size, count, allowance),
@@ -89,7 +89,7 @@ pub fn run(
     allowance: u32,
 ) -> Outcome
     ensures outcome { Leaves sector_size (due_of sector_size count command value.now image.old) allowance image.old image.new result }
-    ensures value { value.now ≡ value.now }
+    ensures value { value.exit.now ≡ value.entry.now }
 {
     let mut space = io::large_buffer();
     let size = part::copied(image, &mut space);
@@ -110,7 +110,7 @@ pub fn run(
 // Reads an ID into a buffer of so many bytes, or of the largest, which any value fits, and prints the value or the refusal.
 pub fn show(image: &[u8], sector_size: usize, count: usize, id: u32, room: usize) -> Reply
     ensures answer { reply_numbers_of result ≡ rule.reply_numbers (rule.read sector_size count image.now id (min room largest)) }
-    ensures image { image.now ≡ image.now }
+    ensures image { image.exit.now ≡ image.entry.now }
 {
     let mut space = io::large_buffer();
     let buffer: &mut [u8] = &mut space;

@@ -80,7 +80,7 @@ fn open_sector(status: Status) -> Open
 pub fn read(image: &[u8], sector_size: usize, count: usize, id: u32, buffer: &mut [u8]) -> Reply
     ensures answer { reply_numbers_of result ≡ rule.reply_numbers (rule.read sector_size count image.now id (length buffer.old)) }
     ensures buffer { buffer.new ≡ rule.buffer_after (rule.read sector_size count image.now id (length buffer.old)) buffer.old }
-    ensures image { image.now ≡ image.now }
+    ensures image { image.exit.now ≡ image.entry.now }
 {
     let Sizes::Legal(g) = Geometry::new(sector_size, count, image.len()) else {
         return Reply::Refused(Refusal::Geometry);
@@ -104,7 +104,7 @@ pub fn write(
     allowance: u32,
 ) -> Outcome
     ensures outcome { Leaves sector_size (rule.write_due sector_size count image.old id value.now) allowance image.old image.new result }
-    ensures value { value.now ≡ value.now }
+    ensures value { value.exit.now ≡ value.entry.now }
 {
     let Sizes::Legal(g) = Geometry::new(sector_size, count, image.len()) else {
         return Outcome::refused(Refusal::Geometry);
