@@ -2,7 +2,7 @@
 -- call (`Reads.Post`, the plain reading of its `ensures`), and by nothing else.
 use Rattle.std.specs.Prelude.{List, ℕ}
 use contract.Lifetimes.{Lfts}
-use Rattle.std.specs.Borrow.{Bor}
+use Rattle.std.specs.Borrow.{Bor, MutBor}
 use Rattle.answer.specs.declared.Outcome.{Outcome}
 use Rattle.answer.specs.declared.Reply.{Reply}
 use Rattle.store.proofs.format.Reads as format
@@ -16,9 +16,12 @@ pub record Address : Type 0 where
   pub ptr : ℕ × ℕ
   pub name : ℕ
 
--- the slice there, with these bytes
-abbrev pub lent : Address → List ℕ → Bor (List ℕ)
+-- the slice there, with these bytes: lent by `&mut`, and by `&`
+abbrev pub lent : Address → List ℕ → MutBor (List ℕ)
 lent p bytes = record { ref_ptr = p.ptr; ghost_name = p.name; now = bytes }
+
+abbrev pub shown : Address → List ℕ → Bor (List ℕ)
+shown p bytes = record { ref_ptr = p.ptr; now = bytes }
 
 pub record Formats (size count : ℕ) (before : List ℕ) (allowance : ℕ) (after : List ℕ) (r : Outcome) : Type 0 where
   pub lifetimes : Lfts 1
@@ -36,7 +39,7 @@ pub record Writes (size count id : ℕ) (value before : List ℕ) (allowance : �
   pub image : Address
   pub source : Address
   pub value_after : List ℕ
-  pub meets : write.Post lifetimes (lent image before, (size, (count, (id, (lent source value, (allowance, tt)))))) r (lent image after, (size, (count, (id, (lent source value_after, (allowance, tt))))))
+  pub meets : write.Post lifetimes (lent image before, (size, (count, (id, (shown source value, (allowance, tt)))))) r (lent image after, (size, (count, (id, (shown source value_after, (allowance, tt))))))
 
 pub record Deletes (size count id : ℕ) (before : List ℕ) (allowance : ℕ) (after : List ℕ) (r : Outcome) : Type 0 where
   pub lifetimes : Lfts 1
@@ -49,12 +52,12 @@ pub record Reads (size count : ℕ) (image : List ℕ) (id : ℕ) (buffer after 
   pub source : Address
   pub target : Address
   pub image_after : List ℕ
-  pub meets : read.Post lifetimes (lent source image, (size, (count, (id, (lent target buffer, tt))))) reply (lent source image_after, (size, (count, (id, (lent target after, tt)))))
+  pub meets : read.Post lifetimes (shown source image, (size, (count, (id, (lent target buffer, tt))))) reply (shown source image_after, (size, (count, (id, (lent target after, tt)))))
 
 -- What a caller must show before a call (`Reads.Asked`, the reading of its `requires`): nothing, so any request can be made.
 pub record AsksNothing : Type 0 where
-  pub formats : (lifetimes : Lfts 1) (image : Bor (List ℕ)) (size count allowance : ℕ) → format.Asked lifetimes (image, (size, (count, (allowance, tt))))
-  pub mounts : (lifetimes : Lfts 1) (image : Bor (List ℕ)) (size count allowance : ℕ) → mount.Asked lifetimes (image, (size, (count, (allowance, tt))))
-  pub reads : (lifetimes : Lfts 2) (image : Bor (List ℕ)) (size count id : ℕ) (buffer : Bor (List ℕ)) → read.Asked lifetimes (image, (size, (count, (id, (buffer, tt)))))
-  pub writes : (lifetimes : Lfts 2) (image : Bor (List ℕ)) (size count id : ℕ) (value : Bor (List ℕ)) (allowance : ℕ) → write.Asked lifetimes (image, (size, (count, (id, (value, (allowance, tt))))))
-  pub deletes : (lifetimes : Lfts 1) (image : Bor (List ℕ)) (size count id allowance : ℕ) → delete.Asked lifetimes (image, (size, (count, (id, (allowance, tt)))))
+  pub formats : (lifetimes : Lfts 1) (image : MutBor (List ℕ)) (size count allowance : ℕ) → format.Asked lifetimes (image, (size, (count, (allowance, tt))))
+  pub mounts : (lifetimes : Lfts 1) (image : MutBor (List ℕ)) (size count allowance : ℕ) → mount.Asked lifetimes (image, (size, (count, (allowance, tt))))
+  pub reads : (lifetimes : Lfts 2) (image : Bor (List ℕ)) (size count id : ℕ) (buffer : MutBor (List ℕ)) → read.Asked lifetimes (image, (size, (count, (id, (buffer, tt)))))
+  pub writes : (lifetimes : Lfts 2) (image : MutBor (List ℕ)) (size count id : ℕ) (value : Bor (List ℕ)) (allowance : ℕ) → write.Asked lifetimes (image, (size, (count, (id, (value, (allowance, tt))))))
+  pub deletes : (lifetimes : Lfts 1) (image : MutBor (List ℕ)) (size count id allowance : ℕ) → delete.Asked lifetimes (image, (size, (count, (id, (allowance, tt)))))

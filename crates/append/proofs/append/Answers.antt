@@ -41,10 +41,8 @@ inside k =
     omega (arith, ends, data-of k.args.head k.args.value.now k.requires.head_value_2)
 
 -- the data that was laid is the entry's
-laid : (c : After-put_data-laid) → 
-    Did c.args.g c.args.image.now (data_stores (sector_no c.args.active.sector) c.args.active.scan.data_end (due c.before.before.before.before.before).blocks) c.args.budget c.put_data-laid.new.image c.put_data-laid.result
+laid : (c : After-put_data-laid) → Did c.args.g c.args.image.now (data_stores (sector_no c.args.active.sector) c.args.active.scan.data_end (due c.before.before.before.before.before).blocks) c.args.budget c.put_data-laid.new.image c.put_data-laid.result
 laid c =
-    
     subst (λ (bs : List Block). Did c.args.g c.args.image.now (data_stores (sector_no c.args.active.sector) c.args.active.scan.data_end bs) c.args.budget c.put_data-laid.new.image c.put_data-laid.result)
     (entry-data c.args.head c.args.value.now c.requires.head_value_2) c.put_data-laid.ensures
 

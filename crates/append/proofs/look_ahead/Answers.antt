@@ -11,7 +11,6 @@ use Rattle.append.proofs.look_ahead.Goals.{After-new-b}
 
 low : (c : After-new-b) → block_no c.new-b.result < blocks_of c.args.g
 low c =
-    
     omega (arith, ap block_no c.new-b.ensures, c.blocks-2.ensures, c.requires.backs.sound.blocks_from)
 
 pub is_entry-test-requires : goal.is_entry-test-requires

@@ -19,22 +19,16 @@ use Rattle.append.proofs.put_data.Goals.{After-put-stored, In-loop-k}
 
 -- the block that is stored begins within the value, and lies within the sector
 begins : (c : In-loop-k)
-    → 
-    (c.loop-k.k < data_blocks (length c.args.value.now)) × (c.loop-k.k * block_size < length c.args.value.now)
+    → (c.loop-k.k < data_blocks (length c.args.value.now)) × (c.loop-k.k * block_size < length c.args.value.now)
 begins c =
-    
     let few : c.loop-k.k < data_blocks (length c.args.value.now) = omega (arith, c.loop-k-test.true, c.data_blocks-count.ensures) in
     (few, block-begins _ _ few)
 
 -- one block more
 more : (c : After-put-stored)
-    → 
-    
-    Did c.args.g c.args.image.now (data_stores (sector_no c.args.active.sector) c.args.active.scan.data_end (take (c.loop-k.k + 1) (value_blocks c.args.value.now))) c.args.budget
+    → Did c.args.g c.args.image.now (data_stores (sector_no c.args.active.sector) c.args.active.scan.data_end (take (c.loop-k.k + 1) (value_blocks c.args.value.now))) c.args.budget
     c.put-stored.new.image c.put-stored.result
 more c =
-    
-    
     let few = (begins (record { before = c.before.before.before.before.before; type_inv = record { value = c.type_inv.value } })).0 in
     let block = c.data_block-block.ensures ∙ sym (value-block 0 c.args.value.now c.loop-k.k few) in
     let stored = rw (c.new.ensures, block) at c.put-stored.ensures in

@@ -16,11 +16,9 @@ use Rattle.append.proofs.put_entry.Goals.{After-look_ahead-looked}
 
 -- what the look-ahead did, in the sector's terms
 looked : (c : After-look_ahead-looked)
-    → 
-    Did c.args.g c.args.image.now (ahead_stores (blocks_of c.args.g) (with_entry c.args.active (head_of c.args.head)) (blocks_in c.args.g c.args.image.now)) c.args.budget
+    → Did c.args.g c.args.image.now (ahead_stores (blocks_of c.args.g) (with_entry c.args.active (head_of c.args.head)) (blocks_in c.args.g c.args.image.now)) c.args.budget
     c.look_ahead-looked.new.image c.look_ahead-looked.result
 looked c =
-    
     subst (λ (x : Active). Did c.args.g c.args.image.now (ahead_stores (blocks_of c.args.g) x (blocks_in c.args.g c.args.image.now)) c.args.budget c.look_ahead-looked.new.image c.look_ahead-looked.result)
     c.with_entry-next.ensures c.look_ahead-looked.ensures
 

@@ -20,12 +20,10 @@ use Rattle.at_rest.proofs.delete.Goals as goal
 use Rattle.at_rest.proofs.delete.Goals.{In-Value}
 
 -- the ID has a value, so there is a deletion to make
-due : (c : In-Value) → 
-    delete_on (blocks_of c.args.g) (sectors_of c.args.g) (image_of (blocks_of c.args.g) (sectors_of c.args.g) c.args.image.now) c.args.id
+due : (c : In-Value) → delete_on (blocks_of c.args.g) (sectors_of c.args.g) (image_of (blocks_of c.args.g) (sectors_of c.args.g) c.args.image.now) c.args.id
     ≡ change_on (blocks_of c.args.g) (sectors_of c.args.g) (sector_no c.args.w) (blocks_of c.args.g - kept_from_deletions) (deletion_entry c.args.id)
     (image_of (blocks_of c.args.g) (sectors_of c.args.g) c.args.image.now)
 due c =
-    
     let inside = rest-inside c.args.g c.args.image.now (sector_no c.args.w) c.requires.image_value in
     let held = found-value c.args.g c.args.image.now c.requires.backs c.args.id (sector_no c.args.w) inside (sym c.find.ensures ∙ c.in-Value.is) in
     delete-rest c.args.g c.args.image.now c.args.id c.requires.fact c.requires.image_value held.told

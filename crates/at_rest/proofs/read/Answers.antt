@@ -20,24 +20,20 @@ use Rattle.at_rest.proofs.read.Goals.{After-number-start, After-passes, In-Value
 
 -- the value that is found
 held : (c : In-Value)
-    → 
-    Holds c.args.image.now (lookup c.args.id (history (at_rest c.args.w.0) (views_in c.args.g c.args.image.now))) (place_no c.in-Value.place) c.in-Value.length c.in-Value.check
+    → Holds c.args.image.now (lookup c.args.id (history (at_rest c.args.w.0) (views_in c.args.g c.args.image.now))) (place_no c.in-Value.place) c.in-Value.length c.in-Value.check
 held c =
-    
     found-value c.args.g c.args.image.now c.requires.backs c.args.id c.args.w.0 c.requires.w_bound (sym c.find.ensures ∙ c.in-Value.is)
 
 -- its bytes, as they are lent
 part : (c : After-number-start)
-    → 
-    take (c.number-start.result + c.in-Value.length - c.number-start.result) (drop c.number-start.result c.args.image.now) ≡ take c.in-Value.length (drop (place_no c.in-Value.place) c.args.image.now)
+    → take (c.number-start.result + c.in-Value.length - c.number-start.result) (drop c.number-start.result c.args.image.now) ≡ take c.in-Value.length (drop (place_no c.in-Value.place) c.args.image.now)
 part c =
     let start : ℕ = c.number-start.result in
     let long : start + c.in-Value.length - start ≡ c.in-Value.length = omega arith in
     ap₂ (λ (n p : ℕ). take n (drop p c.args.image.now)) long c.number-start.ensures
 
 judged : (c : After-passes)
-    → 
-    c.passes.result ≡ passes c.in-Value.check (take c.in-Value.length (drop (place_no c.in-Value.place) c.args.image.now))
+    → c.passes.result ≡ passes c.in-Value.check (take c.in-Value.length (drop (place_no c.in-Value.place) c.args.image.now))
 judged c = c.passes.ensures ∙ ap (passes c.in-Value.check) (part (record { before = c.before.before.before; type_inv = record { buffer = c.type_inv.buffer; image = c.type_inv.image } }))
 
 pub returns-in_default : goal.returns-in_default

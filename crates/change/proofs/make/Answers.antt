@@ -51,11 +51,8 @@ tested : (c : After-admits) → c.admits.result ≡ is_within (blocks_of c.args.
 tested c = c.admits.ensures
 
 -- the entry alone is due
-due-now : (c : After-admits) → c.admits.result ≡ true → 
-    change_on (blocks_of c.args.g) (sectors_of c.args.g) (sector_no c.args.w) (limit_of (blocks_of c.args.g) (head_of c.args.head)) (entry_for c.args.head c.args.value.now) (blocks_in c.args.g c.args.image.now) ≡ calls.make (append (blocks_of c.args.g) (sector_no c.args.w) (entry_for c.args.head c.args.value.now) (blocks_in c.args.g c.args.image.now)) 0
+due-now : (c : After-admits) → c.admits.result ≡ true → change_on (blocks_of c.args.g) (sectors_of c.args.g) (sector_no c.args.w) (limit_of (blocks_of c.args.g) (head_of c.args.head)) (entry_for c.args.head c.args.value.now) (blocks_in c.args.g c.args.image.now) ≡ calls.make (append (blocks_of c.args.g) (sector_no c.args.w) (entry_for c.args.head c.args.value.now) (blocks_in c.args.g c.args.image.now)) 0
 due-now c fits =
-    
-    
     let w : ℕ = sector_no c.args.w in
     let same = ap need_of (entry-head c.args.head c.args.value.now c.requires.changes.sized) in
     let room = within-fits (blocks_of c.args.g) (scan_of c.read-active.result.scan) (head_of c.args.head) c.requires.changes.plain (sym (tested c) ∙ fits) in
@@ -65,8 +62,7 @@ due-now c fits =
     ∙ ap (λ (ss : List Store). calls.make ss 0) (change-now (blocks_of c.args.g) (sectors_of c.args.g) w (entry_for c.args.head c.args.value.now) (blocks_in c.args.g c.args.image.now))
 
 -- with the budget of the allowance
-appended : (c : After-append-made) → 
-    Did c.args.g c.args.image.now (append (blocks_of c.args.g) (sector_no c.args.w) (entry_for c.args.head c.args.value.now) (blocks_in c.args.g c.args.image.now)) (budget_of c.args.allowance) c.append-made.new.image c.append-made.result.budget
+appended : (c : After-append-made) → Did c.args.g c.args.image.now (append (blocks_of c.args.g) (sector_no c.args.w) (entry_for c.args.head c.args.value.now) (blocks_in c.args.g c.args.image.now)) (budget_of c.args.allowance) c.append-made.new.image c.append-made.result.budget
 appended c = rw (c.new.ensures, here (record { before = c.before.before.before.before.before.before.before; type_inv = record { value = c.type_inv.value } })) at c.append-made.ensures.did
 
 pub read-active-requires : goal.read-active-requires

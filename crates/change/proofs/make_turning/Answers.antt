@@ -31,24 +31,20 @@ headed : (k : Start) → (entry_for k.args.head k.args.value.now).head ≡ head_
 headed k = entry-head k.args.head k.args.value.now k.requires.changes.sized
 
 -- what the search for room told
-fitting : (c : After-turns_needed-fit) → 
-    fit_as (least_turns (need_of (entry_for c.args.head c.args.value.now).head) (limit_of (blocks_of c.args.g) (head_of c.args.head)) (sector_no c.args.active.sector) (views_in c.args.g c.args.image.now)) ≡ c.turns_needed-fit.result
+fitting : (c : After-turns_needed-fit) → fit_as (least_turns (need_of (entry_for c.args.head c.args.value.now).head) (limit_of (blocks_of c.args.g) (head_of c.args.head)) (sector_no c.args.active.sector) (views_in c.args.g c.args.image.now)) ≡ c.turns_needed-fit.result
 fitting c =
-    
     ap₂ (λ (n l : ℕ). fit_as (least_turns n l (sector_no c.args.active.sector) (views_in c.args.g c.args.image.now))) (ap need_of (headed c.before.before.before.before.before.before.before.before) ∙ sym c.need.ensures) (sym c.limit.ensures) ∙ sym c.turns_needed-fit.ensures
 
 typed : (c : After-slice_known-1) → Each (λ b. b < 256) c.args.image.now
 typed c = at_each (λ b. b < 256) 0 c.args.image.now (λ j h. omega (arith, c.type_inv.image j))
 
 -- the turns, with the budget of the allowance
-turned : (c : After-turns-moved) → 
-    Did c.args.g c.args.image.now (stores.turns (blocks_of c.args.g) (sectors_of c.args.g) c.in-After.turn_count (sector_no c.args.active.sector) (blocks_in c.args.g c.args.image.now)) (budget_of c.args.allowance) c.turns-moved.new.image c.turns-moved.result.budget
+turned : (c : After-turns-moved) → Did c.args.g c.args.image.now (stores.turns (blocks_of c.args.g) (sectors_of c.args.g) c.in-After.turn_count (sector_no c.args.active.sector) (blocks_in c.args.g c.args.image.now)) (budget_of c.args.allowance) c.turns-moved.new.image c.turns-moved.result.budget
 turned c = rw c.new.ensures at c.turns-moved.ensures.did
 
 -- the turns are few
 below : (c : After-turns-moved) → c.in-After.turn_count < sectors_of c.args.g
 below c =
-    
     turns-below c.args.g c.args.image.now _ _ (sector_no c.args.active.sector) (fitting (record { before = c.before.before.before.before.before; type_inv = record { value = c.type_inv.value } }) ∙ c.in-After.is) c.requires.opened.carried.inside
 
 pub need-requires : goal.need-requires
@@ -98,11 +94,8 @@ pub overflow_cast-turn_count-2 : goal.overflow_cast-turn_count-2
 overflow_cast-turn_count-2 c = omega (arith, below (goal.at.overflow_cast-turn_count-2 c).After-turns-moved, c.requires.backs.sound.sectors_to)
 
 -- the whole change
-changed : (c : After-append-made) → 
-    Did c.args.g c.args.image.now (stores.change (blocks_of c.args.g) (sectors_of c.args.g) c.in-After.turn_count (sector_no c.args.active.sector) (entry_for c.args.head c.args.value.now) (blocks_in c.args.g c.args.image.now)) (budget_of c.args.allowance) c.append-made.new.image c.append-made.result.budget
+changed : (c : After-append-made) → Did c.args.g c.args.image.now (stores.change (blocks_of c.args.g) (sectors_of c.args.g) c.in-After.turn_count (sector_no c.args.active.sector) (entry_for c.args.head c.args.value.now) (blocks_in c.args.g c.args.image.now)) (budget_of c.args.allowance) c.append-made.new.image c.append-made.result.budget
 changed c =
-    
-    
     let uncut = c.if-left.false in
     change-did c.args.g c.args.image.now (sector_no c.args.active.sector) c.in-After.turn_count c.requires.backs (typed (record { before = c.before.before.before.before.before.before.before.before.before.before.before.before.before.before.before.before.before.before; type_inv = record { image = c.slice_known-1.given } })) c.requires.opened.rest (turned (record { before = c.before.before.before.before.before.before.before.before; type_inv = record { value = c.type_inv.value } })) uncut (c.turns-moved.ensures.working uncut) (entry_for c.args.head c.args.value.now) c.append-made.ensures.did
 

@@ -16,11 +16,9 @@ use Rattle.change.proofs.turns.Goals as goal
 use Rattle.change.proofs.turns.Goals.{In-loop-due}
 
 -- in a turn at least one is due
-begun : (c : In-loop-due) → 
-    let l = c.loop-due in
+begun : (c : In-loop-due) → let l = c.loop-due in
     Turning c.args.g (sector_no c.args.active.sector) c.args.turn_count c.args.image.now c.args.budget l.image l.left l.working l.all (suc (l.due - 1))
 begun c =
-    
     let l = c.loop-due in
     subst (Turning c.args.g (sector_no c.args.active.sector) c.args.turn_count c.args.image.now c.args.budget l.image l.left l.working l.all)
     (omega (arith, c.loop-due-test.true)) l.invariant
@@ -65,6 +63,5 @@ shape_of-image c = c.loop-due.invariant.backs.sized ∙ sym c.requires.backs.siz
 pub returns : goal.returns
 unfolding moved
 returns c = let l = c.loop-due in
-    
     let none : l.due ≡ 0 = omega (arith, c.loop-due-test.false) in
     let ended = subst (Turning c.args.g (sector_no c.args.active.sector) c.args.turn_count c.args.image.now c.args.budget l.image l.left l.working l.all) none l.invariant in record { did = turning-end c.args.g c.args.turn_count c.args.image.now c.args.budget ended; rests = (λ whole. ended.rests); working = (λ whole. ended.onward) }

@@ -45,7 +45,6 @@ block_from k = block_at (blocks_in k.args.g k.args.image.now) (sector_no k.args.
 -- what the block tells
 told : (c : After-slice_known-1) → Copied (blocks_of c.args.g) (sector_from c.before) (block_from c.before) (entry_from c.before)
 told c =
-    
     let typed = at_each (λ b. b < 256) 0 c.args.image.now (λ i h. omega (arith, c.slice_known-1.given i)) in
     copied-in c.args.g c.args.image.now (sector_no c.args.from) c.args.n c.requires.backs typed c.requires.from_bound c.requires.n_in_bounds c.requires.n_value
 
@@ -64,15 +63,13 @@ module _ (c : After-source_of-source) where
   head-is = (told c.before.before.before.before.before).head ∙ ap (λ (x : Source). value x.id x.length) (sym source_is)
 
   -- the entry fits in the other sector
-  within : 
+  within :
       is_within (blocks_of c.args.g) (scan_of c.args.active.scan) (value c.source_of-source.result.id c.source_of-source.result.length) ≡ true
   within =
-      
       subst (λ (h : Head). is_within (blocks_of c.args.g) (scan_of c.args.active.scan) h ≡ true) head-is c.requires.n_value_2
 
   fitting : Fits (blocks_of c.args.g) c.args.active (head.Value c.source_of-source.result.id c.source_of-source.result.length)
   fitting =
-      
       fits c.args.g c.args.image.now (sector_no c.args.active.sector) c.requires.backs.sound (carried c.before.before.before.before.before.before).inside (carried c.before.before.before.before.before.before).told (head.Value _ _) within
 
   -- its data blocks: where they lie, and where they go
@@ -82,10 +79,9 @@ module _ (c : After-source_of-source) where
   first-is : c.source_of-source.result.first ≡ first_of (block_from c.before.before.before.before.before.before)
   first-is = ap (λ (x : Source). x.first) source_is
 
-  blocks-are : 
+  blocks-are :
       take (data_blocks c.source_of-source.result.length) (drop c.source_of-source.result.first (sector_from c.before.before.before.before.before.before)) ≡ (entry_from c.before.before.before.before.before.before).blocks
   blocks-are =
-      
       ap₂ (λ (n m : ℕ). take n (drop m (sector_from c.before.before.before.before.before.before))) count-is first-is ∙ sym (told c.before.before.before.before.before).blocks
 
   source-inside : c.source_of-source.result.first + data_blocks c.source_of-source.result.length ≤ blocks_of c.args.g
@@ -94,13 +90,11 @@ module _ (c : After-source_of-source) where
   target-inside : c.args.active.scan.data_end + data_blocks c.source_of-source.result.length ≤ blocks_of c.args.g
   unfolding data_of
   target-inside =
-      
       omega (arith, room c.args.g c.args.image.now (sector_no c.args.active.sector) c.requires.backs.sound (carried c.before.before.before.before.before.before).inside (carried c.before.before.before.before.before.before).told (head.Value _ _) within)
 
-  lie : 
+  lie :
       Each (Lies (blocks_of c.args.g) (sectors_of c.args.g)) (data_stores (sector_no c.args.active.sector) c.args.active.scan.data_end (entry_from c.before.before.before.before.before.before).blocks)
   lie =
-      
       let n : ℕ = data_blocks c.source_of-source.result.length in
       let m : ℕ = c.source_of-source.result.first in
       let number = source-count c.args.g c.args.image.now (sector_no c.args.from) m n c.requires.backs c.requires.from_bound source-inside in
@@ -110,10 +104,8 @@ module _ (c : After-source_of-source) where
 
 -- and they were laid there
 laid : (c : After-copy_data-laid)
-    → 
-    Did c.args.g c.args.image.now (data_stores (sector_no c.args.active.sector) c.args.active.scan.data_end (entry_from c.before.before.before.before.before.before.before.before.before.before).blocks) c.args.budget c.copy_data-laid.new.image c.copy_data-laid.result
+    → Did c.args.g c.args.image.now (data_stores (sector_no c.args.active.sector) c.args.active.scan.data_end (entry_from c.before.before.before.before.before.before.before.before.before.before).blocks) c.args.budget c.copy_data-laid.new.image c.copy_data-laid.result
 laid c =
-    
     subst (λ (bs : List Block). Did c.args.g c.args.image.now (data_stores (sector_no c.args.active.sector) c.args.active.scan.data_end bs) c.args.budget c.copy_data-laid.new.image c.copy_data-laid.result)
     (blocks-are c.before.before.before.before) c.copy_data-laid.ensures
 

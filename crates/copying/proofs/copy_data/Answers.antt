@@ -23,18 +23,14 @@ use Rattle.copying.proofs.copy_data.Goals.{After-put-stored, At-loop-k}
 
 -- so many blocks lie in both sectors
 bounds : (l : At-loop-k)
-    → 
-    (l.args.source.first + l.data_blocks-count.result ≤ blocks_of l.args.g) × (l.args.active.scan.data_end + l.data_blocks-count.result ≤ blocks_of l.args.g)
+    → (l.args.source.first + l.data_blocks-count.result ≤ blocks_of l.args.g) × (l.args.active.scan.data_end + l.data_blocks-count.result ≤ blocks_of l.args.g)
 bounds l =
-    
     (omega (arith, l.data_blocks-count.ensures, l.requires.length_bound), omega (arith, l.data_blocks-count.ensures, l.requires.length_bound_2))
 
 -- the sector that is copied from is as it was
 stays : (l : At-loop-k)
-    → 
-    get_or (blocks_in l.args.g l.loop-k.image) (sector_no l.args.from) [] ≡ get_or (blocks_in l.args.g l.args.image.now) (sector_no l.args.from) []
+    → get_or (blocks_in l.args.g l.loop-k.image) (sector_no l.args.from) [] ≡ get_or (blocks_in l.args.g l.args.image.now) (sector_no l.args.from) []
 stays l =
-    
     let blocks = blocks_from l.args.g l.args.image.now (sector_no l.args.from) l.args.source.first l.data_blocks-count.result in
     let count = source-count l.args.g l.args.image.now (sector_no l.args.from) l.args.source.first l.data_blocks-count.result l.requires.backs l.requires.from_bound (bounds l).0 in
     let few : l.loop-k.k ≤ length blocks = omega (arith, count, l.loop-k.invariant.0) in
@@ -46,15 +42,11 @@ stays l =
 
 -- one block more
 more : (c : After-put-stored)
-    → 
-    
-    Did c.args.g c.args.image.now
+    → Did c.args.g c.args.image.now
     (data_stores (sector_no c.args.active.sector) c.args.active.scan.data_end (take (c.loop-k.k + 1) (blocks_from c.args.g c.args.image.now (sector_no c.args.from) c.args.source.first c.data_blocks-count.result)))
     c.args.budget c.put-stored.new.image c.put-stored.result
 unfolding block_at
 more c =
-    
-    
     let few : c.loop-k.k < c.data_blocks-count.result = c.loop-k-test.true in
     let count = source-count c.args.g c.args.image.now (sector_no c.args.from) c.args.source.first c.data_blocks-count.result c.requires.backs c.requires.from_bound (bounds c.before.before.before.before.before.before).0 in
     let same = source-block c.args.g c.args.image.now (sector_no c.args.from) c.args.source.first c.data_blocks-count.result c.requires.backs c.requires.from_bound (bounds c.before.before.before.before.before.before).0 c.loop-k.k few in

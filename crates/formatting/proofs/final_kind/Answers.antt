@@ -11,8 +11,7 @@ use Rattle.formatting.proofs.final_kind.Goals.{After-number-at}
 
 -- the block so far from the end, in the code's numbers
 at : (c : After-number-at) (n : ℕ)
-    → 
-    block_no c.args.b ≡ blocks_of c.args.g - n → c.number-at.result ≡ c.blocks-blocks.result - n
+    → block_no c.args.b ≡ blocks_of c.args.g - n → c.number-at.result ≡ c.blocks-blocks.result - n
 at c n here = c.number-at.ensures ∙ here ∙ ap (λ (blocks : ℕ). blocks - n) (sym c.blocks-blocks.ensures)
 
 pub returns-then-at-blocks : goal.returns-then-at-blocks

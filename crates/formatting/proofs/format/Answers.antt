@@ -24,18 +24,15 @@ abbrev led : Geometry → List Store
 led g = final_store (blocks_of g) 0 (blocks_of g - 1) ∷ []
 
 first : (c : After-put_blank-unled)
-    → 
-    Did c.args.g c.args.image.now (blanked c.args.g) c.args.budget c.put_blank-unled.new.image c.put_blank-unled.result
+    → Did c.args.g c.args.image.now (blanked c.args.g) c.args.budget c.put_blank-unled.new.image c.put_blank-unled.result
 first c = rw (ap sector_no c.new-first.ensures, ap block_no c.new-lead.ensures, c.blocks-2.ensures) at c.put_blank-unled.ensures
 
 second : (c : After-put_rest-rest)
-    → 
-    Did c.args.g c.args.image.now (blanked c.args.g ++ between c.args.g) c.args.budget c.put_rest-rest.new.image c.put_rest-rest.result
+    → Did c.args.g c.args.image.now (blanked c.args.g ++ between c.args.g) c.args.budget c.put_rest-rest.new.image c.put_rest-rest.result
 second c = did_then (first c.before.before.before.before.before) c.put_rest-rest.ensures
 
 last : (c : After-put_final)
-    → 
-    Did c.args.g c.put_rest-rest.new.image (led c.args.g) c.put_rest-rest.result c.put_final.new.image c.put_final.result
+    → Did c.args.g c.put_rest-rest.new.image (led c.args.g) c.put_rest-rest.result c.put_final.new.image c.put_final.result
 last c = rw (ap sector_no c.new-first.ensures, ap block_no c.new-lead.ensures, c.blocks-2.ensures) at c.put_final.ensures
 
 pub put_blank-unled-requires : goal.put_blank-unled-requires

@@ -14,11 +14,9 @@ use Rattle.formatting.proofs.put_blocks.Goals.{After-put_final-left}
 
 -- one block more
 next : (c : After-put_final-left)
-    → 
-    Did c.args.g c.args.image.now (final_blocks (blocks_of c.args.g) (sector_no c.args.s) 0 (c.loop-b.b + 1))
+    → Did c.args.g c.args.image.now (final_blocks (blocks_of c.args.g) (sector_no c.args.s) 0 (c.loop-b.b + 1))
     c.args.budget c.put_final-left.new.image c.put_final-left.result
 next c =
-    
     let l = c.loop-b in
     rw (blocks-next (blocks_of c.args.g) (sector_no c.args.s) l.b)
     (did_then l.invariant.1 (rw (ap block_no c.new.ensures) at c.put_final-left.ensures))

@@ -13,8 +13,7 @@ use Rattle.formatting.proofs.put_rest.Goals.{After-put_blocks-first}
 
 -- sector 0 up to its lead
 first : (c : After-put_blocks-first)
-    → 
-    Did c.args.g c.args.image.now (final_blocks (blocks_of c.args.g) 0 0 (blocks_of c.args.g - 1))
+    → Did c.args.g c.args.image.now (final_blocks (blocks_of c.args.g) 0 0 (blocks_of c.args.g - 1))
     c.args.budget c.put_blocks-first.new.image c.put_blocks-first.result
 first c = rw (ap sector_no c.new.ensures, c.blocks-count.ensures) at c.put_blocks-first.ensures
 

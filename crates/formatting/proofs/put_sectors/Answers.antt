@@ -14,11 +14,9 @@ use Rattle.formatting.proofs.put_sectors.Goals.{After-put_blocks-left}
 
 -- one sector more
 next : (c : After-put_blocks-left)
-    → 
-    Did c.args.g c.args.image.now (final_sectors (blocks_of c.args.g) 1 (c.loop-s.s + 1 - 1))
+    → Did c.args.g c.args.image.now (final_sectors (blocks_of c.args.g) 1 (c.loop-s.s + 1 - 1))
     c.args.budget c.put_blocks-left.new.image c.put_blocks-left.result
 next c =
-    
     let l = c.loop-s in
     rw (sectors-next (blocks_of c.args.g) l.s l.invariant.0)
     (did_then l.invariant.2 (rw (ap sector_no c.new.ensures, c.blocks-blocks.ensures) at c.put_blocks-left.ensures))

@@ -29,10 +29,8 @@ linked k = omega (arith, k.requires.n_in_bounds, entries-few k.args.g k.args.ima
 
 -- the bucket is the entry's, and one of the table's
 own-bucket : (c : After-bucket-at)
-    → 
-    c.bucket-at.result ≡ bucket_at (entries_at c.before.before.before.before.before.before.before) c.args.n
+    → c.bucket-at.result ≡ bucket_at (entries_at c.before.before.before.before.before.before.before) c.args.n
 own-bucket c =
-    
     let lies = entry-lies c.args.g c.args.image.now c.requires.backs (sector_no c.args.s) _ c.requires.s_bound c.requires.n_in_bounds in
     c.bucket-at.ensures ∙ ap bucket_of (c.id_in.ensures ∙ ap id_of c.entry_block-block.ensures ∙ lies.id)
 

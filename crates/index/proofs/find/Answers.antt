@@ -27,11 +27,9 @@ at_low : (c : After-bucket-at) → c.bucket-at.result < bucket_count
 at_low c = rw c.bucket-at.ensures (bucket-low _)
 
 newest : (c : After-bucket-at)
-    → 
-    get_or c.args.heads.now c.bucket-at.result 0
+    → get_or c.args.heads.now c.bucket-at.result 0
     ≡ link_to (last_in (bucket_of c.args.id) c.args.count (entries_of c.args.g c.args.image.now c.args.s))
 newest c =
-    
     rw c.bucket-at.ensures (c.requires.indexes.newest _ (bucket-low c.args.id))
 
 -- what is linked is an entry of the sector, with a block and a link of its own
@@ -39,47 +37,36 @@ above : (c : In-loop-link) → c.loop-link.link ≡ suc (c.loop-link.link - 1)
 above c = omega (arith, c.loop-link-test.true)
 
 counted : (c : In-loop-link)
-    → 
-    c.loop-link.link - 1 < c.args.count
+    → c.loop-link.link - 1 < c.args.count
 counted c = omega (arith, c.loop-link-test.true, c.loop-link.invariant.few)
 
 inside : (c : In-loop-link)
-    → 
-    c.loop-link.link - 1 < length (entries_of c.args.g c.args.image.now c.args.s)
+    → c.loop-link.link - 1 < length (entries_of c.args.g c.args.image.now c.args.s)
 inside c =
-    
     omega (arith, counted c, c.requires.indexes.few)
 
 low : (c : In-loop-link)
-    → 
-    c.loop-link.link - 1 + 3 ≤ blocks_of c.args.g
+    → c.loop-link.link - 1 + 3 ≤ blocks_of c.args.g
 low c =
-    
     entry-low c.args.g c.args.image.now c.requires.backs (sector_no c.args.s) _ c.requires.s_bound (inside c)
 
 linked : (c : In-loop-link) → c.loop-link.link - 1 < max_marks
 linked c =
-    
     omega (arith, inside c, entries-few c.args.g c.args.image.now (sector_no c.args.s) c.requires.s_bound c.requires.backs.sound)
 
 -- it names the ID where the test says so
 named : (c : After-id_in)
-    → 
-    
-    is_named c.args.id (get_or (entries_of c.args.g c.args.image.now c.args.s) (c.loop-link.link - 1) no_entry).head
+    → is_named c.args.id (get_or (entries_of c.args.g c.args.image.now c.args.s) (c.loop-link.link - 1) no_entry).head
     ≡ eqb c.id_in.result c.args.id
 named c =
-    
     let lies = entry-lies c.args.g c.args.image.now c.requires.backs (sector_no c.args.s) _ c.requires.s_bound (inside (record { before = c.before.before.before; type_inv = record { heads = c.type_inv.heads; links = c.type_inv.links; image = c.type_inv.image } })) in
     named-id c.args.id c.requires.fact _ ∙ ap (λ (i : ℕ). eqb i c.args.id) (sym (c.id_in.ensures ∙ ap id_of c.entry_block-block.ensures ∙ lies.id))
 
 -- and its link leads to the next older one of the bucket
 older : (c : In-loop-link)
-    → 
-    let n = c.loop-link.link - 1 in
+    → let n = c.loop-link.link - 1 in
     Narrowed c.args.id (entries_of c.args.g c.args.image.now c.args.s) n (get_or c.args.links.now n 0)
 older c =
-    
     narrowed-older c.args.id c.requires.fact _ c.loop-link.invariant (above c) (c.requires.indexes.older _ (counted c))
 
 pub offset_bounds-heads-at : goal.offset_bounds-heads-at

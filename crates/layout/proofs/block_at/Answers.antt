@@ -13,10 +13,8 @@ use Rattle.layout.proofs.block_at.Goals.{After-block_bytes}
 
 -- what was read are the bytes of that block
 read : (c : After-block_bytes)
-    → 
-    c.block_bytes.result.now ≡ block_bytes (blocks_of c.args.g) c.args.image.now (sector_no c.args.s) (block_no c.args.b)
+    → c.block_bytes.result.now ≡ block_bytes (blocks_of c.args.g) c.args.image.now (sector_no c.args.s) (block_no c.args.b)
 read c =
-    
     (rw c.sector_bytes.ensures at c.block_bytes.ensures)
     ∙ block-of-sector (blocks_of c.args.g) c.args.image.now (sector_no c.args.s) (block_no c.args.b) c.requires.b_bound
 

@@ -15,22 +15,18 @@ use Rattle.live.proofs.is_live.Goals as goal
 use Rattle.live.proofs.is_live.Goals.{After-entry_block-block, After-id_in, After-length_in, After-shared_slice_known-1}
 
 -- the two fields are those of the entry's block
-id-read : (c : After-id_in) → 
-    id_of (entry_block c.args.g c.args.image.now (sector_no c.args.s) c.args.n) ≡ c.id_in.result
+id-read : (c : After-id_in) → id_of (entry_block c.args.g c.args.image.now (sector_no c.args.s) c.args.n) ≡ c.id_in.result
 id-read c = rw c.entry_block-block.ensures at (sym c.id_in.ensures)
 
-length-read : (c : After-length_in) → 
-    length_of (entry_block c.args.g c.args.image.now (sector_no c.args.s) c.args.n) ≡ c.length_in.result
+length-read : (c : After-length_in) → length_of (entry_block c.args.g c.args.image.now (sector_no c.args.s) c.args.n) ≡ c.length_in.result
 length-read c = rw c.entry_block-block.ensures at (sym c.length_in.ensures)
 
 low : (c : After-shared_slice_known-1) → c.args.n + 3 ≤ blocks_of c.args.g
 low c =
-    
     entry-low c.args.g c.args.image.now c.requires.backs (sector_no c.args.s) c.args.n c.requires.s_bound c.requires.n_in_bounds
 
 whole : (c : After-entry_block-block) → length c.entry_block-block.result.now ≡ block_size
 whole c =
-    
     ap length c.entry_block-block.ensures
     ∙ entry_whole c.args.g c.args.image.now (sector_no c.args.s) c.args.n c.requires.backs c.requires.s_bound (low (record { before = c.before.before; type_inv = record { image = c.type_inv.image } }))
 

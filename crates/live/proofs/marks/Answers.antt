@@ -27,20 +27,15 @@ low : (c : After-number-number) → c.number-number.result < 64
 low c = omega (arith, c.number-number.ensures, c.requires.s_bound, c.requires.backs.sound.sectors_to)
 
 -- the entries that were counted are those of the sector, and there is a mark for each
-counted : (c : After-number-number) → 
-    get_or c.args.counts c.number-number.result 0 ≡ length (entries_at c.args.g c.args.image.now c.args.s)
+counted : (c : After-number-number) → get_or c.args.counts c.number-number.result 0 ≡ length (entries_at c.args.g c.args.image.now c.args.s)
 counted c =
-    
     rw c.number-number.ensures (entries-noted c.args.g c.args.image.now (sector_no c.args.s) c.requires.s_bound c.requires.counts)
 
-few : (c : After-number-number) → 
-    get_or c.args.counts c.number-number.result 0 < max_marks
+few : (c : After-number-number) → get_or c.args.counts c.number-number.result 0 < max_marks
 few c =
-    
     omega (arith, counted c, entries-few c.args.g c.args.image.now (sector_no c.args.s) c.requires.s_bound c.requires.backs.sound)
 
-flags-count : (c : After-number-number) (u : ℕ) → 
-    length (live_flags_in u (sector_no c.args.s) (views_in c.args.g c.args.image.now)) ≡ get_or c.args.counts c.number-number.result 0
+flags-count : (c : After-number-number) (u : ℕ) → length (live_flags_in u (sector_no c.args.s) (views_in c.args.g c.args.image.now)) ≡ get_or c.args.counts c.number-number.result 0
 flags-count c u = length-live-in u _ _ ∙ sym (counted c)
 
 pub offset_bounds-counts-number : goal.offset_bounds-counts-number
@@ -60,11 +55,9 @@ is_live-requires c =
     record { backs = c.requires.backs; s_bound = c.requires.s_bound; n_in_bounds = omega (arith, c.loop-n-test.true, counted (goal.at.is_live-requires c).After-number-number) }
 
 -- the answer is the flag
-told : (c : After-is_live) (u : ℕ) → 
-    marks_of c.marks-renewed.result ≡ padded max_marks (renewed_flags_in u (sector_no c.args.s) (views_in c.args.g c.args.image.now))
+told : (c : After-is_live) (u : ℕ) → marks_of c.marks-renewed.result ≡ padded max_marks (renewed_flags_in u (sector_no c.args.s) (views_in c.args.g c.args.image.now))
     → c.is_live.result ≡ get_or (live_flags_in u (sector_no c.args.s) (views_in c.args.g c.args.image.now)) c.loop-n.n false
 told c u same =
-    
     let n : ℕ = c.loop-n.n in
     let noted = counted (record { before = c.before.before.before.before.before; type_inv = record { image = c.type_inv.image } }) in
     let marked : n < max_marks = omega (arith, c.loop-n-test.true, few (record { before = c.before.before.before.before.before; type_inv = record { image = c.type_inv.image } })) in

@@ -26,25 +26,20 @@ use Rattle.live.proofs.needs.Goals.{then-has, else-has, After-has, After-number-
 low : (c : After-number-number) → c.number-number.result < 64
 low c = omega (arith, c.number-number.ensures, c.requires.s_bound, c.requires.backs.sound.sectors_to)
 
-counted : (c : After-number-number) → 
-    get_or c.args.counts c.number-number.result 0 ≡ length (view_at (views_in c.args.g c.args.image.now) (sector_no c.args.s)).entries
+counted : (c : After-number-number) → get_or c.args.counts c.number-number.result 0 ≡ length (view_at (views_in c.args.g c.args.image.now) (sector_no c.args.s)).entries
 counted c =
-    
     rw c.number-number.ensures (entries-noted c.args.g c.args.image.now (sector_no c.args.s) c.requires.s_bound c.requires.counts)
 
 -- in a turn entry i is one of the sector's, and has a mark
-inside : (c : In-loop-i) → 
-    c.loop-i.i < length (view_at (views_in c.args.g c.args.image.now) (sector_no c.args.s)).entries
+inside : (c : In-loop-i) → c.loop-i.i < length (view_at (views_in c.args.g c.args.image.now) (sector_no c.args.s)).entries
 inside c = omega (arith, c.loop-i-test.true, counted (record { before = c.before.before.before; type_inv = record { image = c.type_inv.image } }))
 
 marked : (c : In-loop-i) → c.loop-i.i < max_marks
 marked c =
-    
     omega (arith, inside c, entries-few c.args.g c.args.image.now (sector_no c.args.s) c.requires.s_bound c.requires.backs.sound)
 
 -- the mark is the flag
-told : (c : After-has) (u : ℕ) → 
-    marks_of c.marks-live.result ≡ padded max_marks (live_flags_in u (sector_no c.args.s) (views_in c.args.g c.args.image.now))
+told : (c : After-has) (u : ℕ) → marks_of c.marks-live.result ≡ padded max_marks (live_flags_in u (sector_no c.args.s) (views_in c.args.g c.args.image.now))
     → c.has.result ≡ get_or (live_flags_in u (sector_no c.args.s) (views_in c.args.g c.args.image.now)) c.loop-i.i false
 told c u same =
     c.has.ensures

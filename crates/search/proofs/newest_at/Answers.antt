@@ -14,15 +14,12 @@ use Rattle.search.proofs.newest_at.Goals as goal
 use Rattle.search.proofs.newest_at.Goals.{After-sector_bytes-bytes}
 
 seen : (c : After-sector_bytes-bytes)
-    → 
-    view_at (views_in c.args.g c.args.image.now) c.args.s.0 ≡ view_of (blocks_of c.args.g) (sector_of (blocks_of c.args.g) c.sector_bytes-bytes.result.now)
+    → view_at (views_in c.args.g c.args.image.now) c.args.s.0 ≡ view_of (blocks_of c.args.g) (sector_of (blocks_of c.args.g) c.sector_bytes-bytes.result.now)
 seen c =
-    
     view-read c.args.g c.args.image.now c.args.s.0 c.requires.s_bound c.sector_bytes-bytes.ensures
 
 sized : (c : After-sector_bytes-bytes) → length c.sector_bytes-bytes.result.now ≡ blocks_of c.args.g * block_size
 sized c =
-    
     ap length c.sector_bytes-bytes.ensures
     ∙ length-sector-bytes (blocks_of c.args.g) (sectors_of c.args.g) c.args.image.now c.args.s.0 c.requires.s_bound c.requires.backs.sized
 

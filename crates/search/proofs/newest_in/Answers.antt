@@ -20,31 +20,23 @@ use Rattle.search.proofs.newest_in.Goals.{After-block_bytes-block, After-id_in, 
 
 -- in a turn entry n - 1 is one of the sector's, and its block one of the sector's blocks
 inside : (c : In-loop-n)
-    → 
-    c.loop-n.n - 1 < length (entries_in c.args.g c.args.sector.now)
+    → c.loop-n.n - 1 < length (entries_in c.args.g c.args.sector.now)
 inside c =
-    
     omega (arith, c.loop-n-test.true, c.loop-n.invariant.0, c.requires.entries_value)
 
 low : (c : In-loop-n)
-    → 
-    c.loop-n.n - 1 < blocks_of c.args.g - 3
+    → c.loop-n.n - 1 < blocks_of c.args.g - 3
 low c =
-    
     omega (arith, inside c, entries-few (blocks_of c.args.g) c.args.sector.now c.requires.sound.blocks_from)
 
 -- what is read is that block
 read : (c : After-block_bytes-block)
-    → 
-    
-    c.block_bytes-block.result.now ≡ take block_size (drop ((blocks_of c.args.g - 3 - (c.loop-n.n - 1)) * block_size) c.args.sector.now)
+    → c.block_bytes-block.result.now ≡ take block_size (drop ((blocks_of c.args.g - 3 - (c.loop-n.n - 1)) * block_size) c.args.sector.now)
 read c = rw (ap block_no c.new.ensures, c.blocks-in-loop-n.ensures) at c.block_bytes-block.ensures
 
 -- entry n - 1 names the ID where the test says so
 named : (c : After-id_in)
-    → 
-    
-    is_named c.args.id (get_or (entries_in c.args.g c.args.sector.now) (c.loop-n.n - 1) no_entry).head ≡ eqb c.id_in.result c.args.id
+    → is_named c.args.id (get_or (entries_in c.args.g c.args.sector.now) (c.loop-n.n - 1) no_entry).head ≡ eqb c.id_in.result c.args.id
 named c =
     let block = rw (ap block_no c.new.ensures, c.blocks-in-loop-n.ensures) at c.block_bytes-block.ensures in
     named_by _ _ c.requires.sound.blocks_from c.requires.sector_len _ c.requires.fact _ (inside (record { before = c.before.before.before.before.before; type_inv = record { sector = c.type_inv.sector } })) block

@@ -22,7 +22,6 @@ low k = entry-low k.args.g k.args.image.now k.requires.backs k.args.s.0 k.args.n
 
 whole : (c : After-entry_block-block) → length c.entry_block-block.result.now ≡ block_size
 whole c =
-    
     ap length c.entry_block-block.ensures
     ∙ entry_whole c.args.g c.args.image.now c.args.s.0 c.args.n c.requires.backs c.requires.s_bound (low c.before.before.before)
 
@@ -41,15 +40,13 @@ crc c = c.crc32_in-crc.ensures ∙ ap crc32_of c.entry_block-block.ensures
 
 -- where the entry stands
 at : (c : After-new)
-    → 
-    block_no c.new.result ≡ blocks_of c.args.g - 3 - c.args.n
+    → block_no c.new.result ≡ blocks_of c.args.g - 3 - c.args.n
 at c =
     ap block_no c.new.ensures
     ∙ ap (λ (b : ℕ). b - 3 - c.args.n) c.blocks-then-length-le-SMALL.ensures
 
 below : (c : After-new) → block_no c.new.result < blocks_of c.args.g
 below c =
-    
     omega (arith, at c, low c.before.before.before.before.before.before.before.before, c.requires.backs.sound.blocks_from)
 
 pub entry_block-block-requires : goal.entry_block-block-requires

@@ -26,7 +26,6 @@ told c = led-header _ _ (sym c.read_header.ensures ∙ c.in-Led.is)
 noted : (c : After-has_done) → c.has_done.result ≡ has_done (shown c.before.before.before.before.before.before)
 unfolding view_of has_done
 noted c =
-    
     let B : ℕ = blocks_of c.args.g in
     c.has_done.ensures ∙ ap (λ (n : ℕ). has_done_among (entries_of B n (sector_of B c.args.sector.now))) (told (record { before = c.before.before.before; type_inv = record { sector = c.shared_slice_known-1.given } })).1
 

@@ -22,25 +22,20 @@ use Rattle.sector.proofs.is_unused.Goals.{After-block, After-block_bytes, After-
 
 -- what was read are the lead and the first entry block
 lead-there : (c : After-block_bytes)
-    → 
-    BlockRead (blocks_of c.args.g) c.args.sector.now (blocks_of c.args.g - 1) c.block_bytes.result.now
+    → BlockRead (blocks_of c.args.g) c.args.sector.now (blocks_of c.args.g - 1) c.block_bytes.result.now
 lead-there c =
-    
     block_read _ _ _ (omega (arith, c.requires.sound.blocks_from)) c.requires.sector_len
     (rw c.blocks-blocks.ensures at c.new.ensures) c.block_bytes.ensures
 
 first-there : (c : After-block_bytes-first)
-    → 
-    BlockRead (blocks_of c.args.g) c.args.sector.now (blocks_of c.args.g - 3) c.block_bytes-first.result.now
+    → BlockRead (blocks_of c.args.g) c.args.sector.now (blocks_of c.args.g - 3) c.block_bytes-first.result.now
 first-there c =
-    
     block_read _ _ _ (omega (arith, c.requires.sound.blocks_from)) c.requires.sector_len
     (rw c.blocks-blocks.ensures at c.new-2.ensures) c.block_bytes-first.ensures
 
 -- the rules' verdict on that block, and the answer for it
 abbrev verdict_on : After-block → rule.Verdict
 verdict_on c =
-    
     let B : ℕ = blocks_of c.args.g in
     look B (view_of B (sector_of B c.args.sector.now)).cycle start (get_or (sector_of B c.args.sector.now) (B - 3) [])
 

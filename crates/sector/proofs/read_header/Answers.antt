@@ -11,18 +11,14 @@ use Rattle.sector.proofs.read_header.Goals.{After-block_bytes, After-block_bytes
 
 -- what was read are the lead and the close
 lead-there : (c : After-block_bytes)
-    → 
-    BlockRead (blocks_of c.args.g) c.args.sector.now (blocks_of c.args.g - 1) c.block_bytes.result.now
+    → BlockRead (blocks_of c.args.g) c.args.sector.now (blocks_of c.args.g - 1) c.block_bytes.result.now
 lead-there c =
-    
     block_read _ _ _ (omega (arith, c.requires.sound.blocks_from)) c.requires.sector_len
     (rw c.blocks-blocks.ensures at c.new.ensures) c.block_bytes.ensures
 
 close-there : (c : After-block_bytes-2)
-    → 
-    BlockRead (blocks_of c.args.g) c.args.sector.now (blocks_of c.args.g - 2) c.block_bytes-2.result.now
+    → BlockRead (blocks_of c.args.g) c.args.sector.now (blocks_of c.args.g - 2) c.block_bytes-2.result.now
 close-there c =
-    
     block_read _ _ _ (omega (arith, c.requires.sound.blocks_from)) c.requires.sector_len
     (rw c.blocks-blocks.ensures at c.new-2.ensures) c.block_bytes-2.ensures
 

@@ -26,16 +26,13 @@ use Rattle.sector.proofs.take_entries.Goals.{After-block_by-verdict, After-block
 
 -- what was read is block `at`
 block-there : (c : After-block_bytes-bytes)
-    → 
-    BlockRead (blocks_of c.args.g) c.args.sector.now c.loop-next.at c.block_bytes-bytes.result.now
+    → BlockRead (blocks_of c.args.g) c.args.sector.now c.loop-next.at c.block_bytes-bytes.result.now
 block-there c =
-    
     block_read _ _ _ (omega (arith, stand-below c.loop-next.invariant)) c.requires.sector_len c.new.ensures c.block_bytes-bytes.ensures
 
 -- the rules' verdict on that block, and the answer for it
 abbrev verdict_on : After-block_by-verdict → rule.Verdict
 verdict_on c =
-    
     let B : ℕ = blocks_of c.args.g in
     look B c.args.cycle (scan_of c.loop-next.scan) (get_or (sector_of B c.args.sector.now) c.loop-next.at [])
 

@@ -22,20 +22,17 @@ use Rattle.store.proofs.delete.Goals.{After-open_sector, In-Legal, In-Working}
 
 -- the sizes are legal, and the image has them
 legal : (l : In-Legal)
-    → 
-    sizes_of l.args.sector_size l.args.count (length l.args.image.now) ≡ Legal l.in-Legal.g
+    → sizes_of l.args.sector_size l.args.count (length l.args.image.now) ≡ Legal l.in-Legal.g
 legal l = sym l.new.ensures ∙ l.in-Legal.is
 
 backs : (l : In-Legal) → Backs l.in-Legal.g l.args.image.now
 backs l = legal-backs _ _ _ l.in-Legal.g (legal l) l.args.image.now refl
 
 -- the state of the image, by the sector that is open or the refusal
-opened : (o : After-open_sector) → 
-    open_as (state_of (views_in o.in-Legal.g o.args.image.now)) ≡ o.open_sector.result
+opened : (o : After-open_sector) → open_as (state_of (views_in o.in-Legal.g o.args.image.now)) ≡ o.open_sector.result
 opened o = ap open_as (survey-state _ _ o.survey.ensures) ∙ sym o.open_sector.ensures
 
-rest : (c : In-Working) → 
-    state_of (views_in c.in-Legal.g c.args.image.now) ≡ some (at_rest (sector_no c.in-Working.w))
+rest : (c : In-Working) → state_of (views_in c.in-Legal.g c.args.image.now) ≡ some (at_rest (sector_no c.in-Working.w))
 rest c = open-working _ (opened c.before ∙ c.in-Working.is)
 
 pub returns-in_default : goal.returns-in_default

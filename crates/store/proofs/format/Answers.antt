@@ -17,8 +17,7 @@ use Rattle.store.proofs.format.Goals.{In-Legal}
 
 -- the sizes are legal
 legal : (c : In-Legal)
-    → 
-    sizes_of c.args.sector_size c.args.count (length c.args.image.now) ≡ Legal c.in-Legal.g
+    → sizes_of c.args.sector_size c.args.count (length c.args.image.now) ≡ Legal c.in-Legal.g
 legal c = sym c.new.ensures ∙ c.in-Legal.is
 
 pub returns-in_default : goal.returns-in_default

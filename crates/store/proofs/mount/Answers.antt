@@ -20,19 +20,16 @@ use Rattle.store.proofs.mount.Goals.{After-mount_turns, In-Legal}
 
 -- the sizes are legal, and the image has them
 legal : (c : In-Legal)
-    → 
-    sizes_of c.args.sector_size c.args.count (length c.args.image.now) ≡ Legal c.in-Legal.g
+    → sizes_of c.args.sector_size c.args.count (length c.args.image.now) ≡ Legal c.in-Legal.g
 legal c = sym c.new.ensures ∙ c.in-Legal.is
 
 backs : (c : In-Legal) → Backs c.in-Legal.g c.args.image.now
 backs c =
-    
     legal-backs c.args.sector_size c.args.count _ c.in-Legal.g (legal c) c.args.image.now refl
 
 -- the turns are those of the state
 begins : (c : After-mount_turns)
-    → 
-    begun_as (state_of (views_in c.in-Legal.g c.args.image.now)) ≡ c.mount_turns.result
+    → begun_as (state_of (views_in c.in-Legal.g c.args.image.now)) ≡ c.mount_turns.result
 begins c = ap begun_as (survey-state _ _ c.survey-status.ensures) ∙ sym c.mount_turns.ensures
 
 pub returns-in_default : goal.returns-in_default

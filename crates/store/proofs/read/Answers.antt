@@ -23,8 +23,7 @@ use Rattle.store.proofs.read.Goals.{After-open_sector, In-Legal, In-Working}
 
 -- the sizes are legal, and the image has them
 legal : (c : In-Legal)
-    → 
-    sizes_of c.args.sector_size c.args.count (length c.args.image.now) ≡ Legal c.in-Legal.g
+    → sizes_of c.args.sector_size c.args.count (length c.args.image.now) ≡ Legal c.in-Legal.g
 legal c = sym c.new.ensures ∙ c.in-Legal.is
 
 backs : (c : In-Legal) → Backs c.in-Legal.g c.args.image.now
@@ -32,15 +31,11 @@ backs c = legal-backs _ _ _ c.in-Legal.g (legal c) c.args.image.now refl
 
 -- the state of the image, by the sector that is open or the refusal
 opened : (c : After-open_sector)
-    → 
-    
-    open_as (state_of (views_in c.in-Legal.g c.args.image.now)) ≡ c.open_sector.result
+    → open_as (state_of (views_in c.in-Legal.g c.args.image.now)) ≡ c.open_sector.result
 opened c = ap open_as (survey-state _ _ c.survey.ensures) ∙ sym c.open_sector.ensures
 
 rest : (c : In-Working)
-    → 
-    
-    state_of (views_in c.in-Legal.g c.args.image.now) ≡ some (at_rest (sector_no c.in-Working.w))
+    → state_of (views_in c.in-Legal.g c.args.image.now) ≡ some (at_rest (sector_no c.in-Working.w))
 rest c = open-working _ (opened (record { before = c.before.before; type_inv = record { buffer = c.type_inv.buffer; image = c.type_inv.image } }) ∙ c.in-Working.is)
 
 pub returns-in_default : goal.returns-in_default

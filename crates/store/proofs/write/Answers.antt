@@ -29,8 +29,7 @@ use Rattle.store.proofs.write.Goals.{After-open_sector, In-Legal, In-Working}
 
 -- the sizes are legal, and the image has them
 legal : (l : In-Legal)
-    → 
-    sizes_of l.args.sector_size l.args.count (length l.args.image.now) ≡ Legal l.in-Legal.g
+    → sizes_of l.args.sector_size l.args.count (length l.args.image.now) ≡ Legal l.in-Legal.g
 legal l = sym l.new.ensures ∙ l.in-Legal.is
 
 backs : (l : In-Legal) → Backs l.in-Legal.g l.args.image.now
@@ -42,12 +41,10 @@ unfolding need_of
 needed id len is = ap (λ (n : ℕ). 1 + n) is
 
 -- the state of the image, by the sector that is open or the refusal
-opened : (o : After-open_sector) → 
-    open_as (state_of (views_in o.in-Legal.g o.args.image.now)) ≡ o.open_sector.result
+opened : (o : After-open_sector) → open_as (state_of (views_in o.in-Legal.g o.args.image.now)) ≡ o.open_sector.result
 opened o = ap open_as (survey-state _ _ o.survey.ensures) ∙ sym o.open_sector.ensures
 
-rest : (c : In-Working) → 
-    state_of (views_in c.in-Legal.g c.args.image.now) ≡ some (at_rest (sector_no c.in-Working.w))
+rest : (c : In-Working) → state_of (views_in c.in-Legal.g c.args.image.now) ≡ some (at_rest (sector_no c.in-Working.w))
 rest c = open-working _ (opened (record { before = c.before.before; type_inv = record { value = c.type_inv.value } }) ∙ c.in-Working.is)
 
 pub returns-in_default : goal.returns-in_default
@@ -88,9 +85,7 @@ pub survey-requires : goal.survey-requires
 survey-requires c = backs (goal.at.survey-requires c).In-Legal
 
 -- the value fits an empty sector
-fits : (o : After-open_sector) → 
-    
-    need_of (look.value o.args.id (length o.args.value.now)) ≤ blocks_of o.in-Legal.g - kept_from_values
+fits : (o : After-open_sector) → need_of (look.value o.args.id (length o.args.value.now)) ≤ blocks_of o.in-Legal.g - kept_from_values
 fits o =
     omega (arith, o.if-value_limit-need.false, o.value_limit.ensures, needed o.args.id (length o.args.value.now) o.data_blocks-need.ensures)
 

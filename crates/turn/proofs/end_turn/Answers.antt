@@ -65,7 +65,6 @@ returns c =
     let S : ℕ = sectors_of g in
     let u : ℕ = sector_no c.args.active.sector in
     let o : ℕ = next S u in
-    
     let middle : List ℕ = c.append-done.new.image in
     let did = c.append-done.ensures.did in
     let bytes = typed (goal.at.returns c).After-slice_known-1 in

@@ -43,7 +43,6 @@ returns c =
     let S : ℕ = sectors_of g in
     let u : ℕ = sector_no c.args.active.sector in
     let bytes : List ℕ = c.args.image.now in
-    
     let left = c.gather-gathered.ensures.gathered c.if-gathered.false in
     let here : sector_no c.gather-gathered.result.active.sector ≡ u = ap (λ (x : Active). sector_no x.sector) left.told in
     let whole = image-of-bytes B S bytes (at_each (λ b. b < 256) 0 c.args.image.now (λ j h. omega (arith, (goal.at.returns c).After-slice_known-1.type_inv.image j))) c.requires.backs.sized in

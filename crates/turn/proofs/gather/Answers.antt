@@ -31,34 +31,26 @@ module _ (p : After-previous_sector-newest) where
 
   newest-is : next (sectors_of p.args.g) (sector_no p.previous_sector-newest.result) ≡ sector_no p.args.active.sector
   newest-is =
-      
       ap (next (sectors_of p.args.g)) p.previous_sector-newest.ensures ∙ next-previous (sectors_of p.args.g) (sector_no p.args.active.sector) p.requires.carries.inside
 
   oldest-inside : sector_no p.next_sector-oldest.result < sectors_of p.args.g
   oldest-inside =
-      
       omega (arith, oldest-is, next-lt (sectors_of p.args.g) (sector_no p.args.active.sector) p.requires.carries.inside)
 
   newest-inside : sector_no p.previous_sector-newest.result < sectors_of p.args.g
   newest-inside =
-      
       omega (arith, p.previous_sector-newest.ensures, previous-lt (sectors_of p.args.g) (sector_no p.args.active.sector) p.requires.carries.inside)
 
   apart : sector_no p.next_sector-oldest.result ≡ sector_no p.args.active.sector → ⊥
   apart same =
-      
       next-ne (sectors_of p.args.g) (sector_no p.args.active.sector) p.requires.backs.sound.sectors_from (sym oldest-is ∙ same)
 
 low : (c : After-number-number) → c.number-number.result < 64
 low c =
-    
-    
     omega (arith, c.number-number.ensures, oldest-inside c.before.before, c.requires.backs.sound.sectors_to)
 
-counted : (c : After-number-number) → 
-    get_or c.args.counts c.number-number.result 0 ≡ length (view_at (views_in c.args.g c.args.image.now) (sector_no c.next_sector-oldest.result)).entries
+counted : (c : After-number-number) → get_or c.args.counts c.number-number.result 0 ≡ length (view_at (views_in c.args.g c.args.image.now) (sector_no c.next_sector-oldest.result)).entries
 counted c =
-    
     ap (λ (i : ℕ). get_or c.args.counts i 0) c.number-number.ensures
     ∙ entries-noted c.args.g c.args.image.now (sector_no c.next_sector-oldest.result) (oldest-inside c.before.before) c.requires.counts
 

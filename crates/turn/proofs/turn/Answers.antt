@@ -28,36 +28,31 @@ use Rattle.turn.proofs.turn.Goals as goal
 use Rattle.turn.proofs.turn.Goals.{After-close-left}
 
 -- the close shows at once
-closing : (d : After-close-left) → 
-    IsAtomic (blocks_of d.args.g) (sectors_of d.args.g) (close_sector (blocks_of d.args.g) (sector_no d.args.w)) (blocks_in d.args.g d.args.image.now)
+closing : (d : After-close-left) → IsAtomic (blocks_of d.args.g) (sectors_of d.args.g) (close_sector (blocks_of d.args.g) (sector_no d.args.w)) (blocks_in d.args.g d.args.image.now)
     (changed closed_view (sector_no d.args.w) (views_in d.args.g d.args.image.now))
 closing d =
-    
     let typed = at_each (λ b. b < 256) 0 d.args.image.now (λ j h. omega (arith, d.slice_known-1.given j)) in
     let whole = image-of-bytes (blocks_of d.args.g) (sectors_of d.args.g) d.args.image.now typed d.requires.backs.sized in
     close-atomic d.requires.backs.sound.blocks_from whole d.requires.w_bound
 
 module _ (d : After-close-left) (whole : d.close-left.result.cut ≡ false) where
   -- the spare stays as it was
-  spare-stays : 
+  spare-stays :
       view_at (views_in d.args.g d.close-left.new.image) (next (sectors_of d.args.g) (sector_no d.args.w)) ≡ view_at (views_in d.args.g d.args.image.now) (next (sectors_of d.args.g) (sector_no d.args.w))
   spare-stays =
-      
       step-others closed_view (sector_no d.args.w) d.requires.backs (closing d) d.close-left.ensures whole _ (next-ne (sectors_of d.args.g) (sector_no d.args.w) d.requires.backs.sound.sectors_from)
 
   -- and so do the entries of every sector
   entries-stay : (t : ℕ) → (view_at (views_in d.args.g d.close-left.new.image) t).entries ≡ (view_at (views_in d.args.g d.args.image.now) t).entries
   entries-stay t =
-      
       here-or (λ (x : ℕ). (view_at (views_in d.args.g d.close-left.new.image) x).entries ≡ (view_at (views_in d.args.g d.args.image.now) x).entries) (sector_no d.args.w) t
       (ap (λ (v : View). v.entries) (step-here closed_view (sector_no d.args.w) d.requires.backs (closing d) d.close-left.ensures whole d.requires.w_bound))
       (λ other. ap (λ (v : View). v.entries) (step-others closed_view (sector_no d.args.w) d.requires.backs (closing d) d.close-left.ensures whole t other))
 
   -- what is carried of the spare
-  spare-told : 
+  spare-told :
       d.unused-spare.result ≡ active_as (next (sectors_of d.args.g) (sector_no d.args.w)) (view_at (views_in d.args.g d.close-left.new.image) (next (sectors_of d.args.g) (sector_no d.args.w)))
   spare-told =
-      
       d.unused-spare.ensures
       ∙ ap (λ (s : ℕ). active_as s (view_at (views_in d.args.g d.args.image.now) s)) d.next_sector.ensures
       ∙ ap (active_as (next (sectors_of d.args.g) (sector_no d.args.w))) (sym spare-stays)
@@ -65,7 +60,6 @@ module _ (d : After-close-left) (whole : d.close-left.result.cut ≡ false) wher
   -- the entries are counted as before
   counts-stay : Counts (views_in d.args.g d.close-left.new.image) d.args.counts
   counts-stay =
-      
       record {
         each = λ t h.
             d.requires.counts.each t (omega (arith, views-count d.args.g d.close-left.new.image, views-count d.args.g d.args.image.now))

@@ -15,16 +15,14 @@ use Rattle.budget.proofs.reopen.blank_stale.Goals.{After-put_blank_if, After-put
 
 -- the first blanking, and the second, each of the block that was judged
 first : (c : After-put_blank_if-left)
-    → 
-    let g = c.args.g in
+    → let g = c.args.g in
     let s = sector_no c.args.s in
     Did g c.args.image.now (blank_if (is_close c.args.cycle (block_at (image_of (blocks_of g) (sectors_of g) c.args.image.now) s (blocks_of g - 2))) s (blocks_of g - 2))
     c.args.budget c.put_blank_if-left.new.image c.put_blank_if-left.result
 first c = rw (c.has_close-closed.ensures, ap block_no c.new.ensures, c.blocks-blocks.ensures) at c.put_blank_if-left.ensures
 
 second : (c : After-put_blank_if)
-    → 
-    let g = c.args.g in
+    → let g = c.args.g in
     let s = sector_no c.args.s in
     Did g c.put_blank_if-left.new.image
     (blank_if (is_entry (look (blocks_of g) c.args.cycle start (block_at (image_of (blocks_of g) (sectors_of g) c.args.image.now) s (blocks_of g - 3)))) s (blocks_of g - 3))

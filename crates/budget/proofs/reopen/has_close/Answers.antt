@@ -12,8 +12,7 @@ use Rattle.budget.proofs.reopen.has_close.Goals.{After-block_at}
 
 -- what is looked at is block B-2
 there : (c : After-block_at)
-    → 
-    let g = c.args.g in
+    → let g = c.args.g in
     c.block_at.result.now ≡ block_at (image_of (blocks_of g) (sectors_of g) c.args.image.now) (sector_no c.args.s) (blocks_of g - 2)
 there c = rw (ap block_no c.new-at.ensures, c.blocks-2.ensures) at c.block_at.ensures.block
 

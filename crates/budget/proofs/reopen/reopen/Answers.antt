@@ -16,8 +16,7 @@ use Rattle.budget.proofs.reopen.reopen.Goals.{After-blank_stale-blanked, After-n
 
 -- the stores due, by the cycle that was worked out
 due : (c : After-next_cycle-next)
-    → 
-    let g = c.args.g in
+    → let g = c.args.g in
     let im = image_of (blocks_of g) (sectors_of g) c.args.image.now in
     stale_blanks (blocks_of g) (sector_no c.args.s) c.next_cycle-next.result im
     ++ (lead_store (blocks_of g) (sector_no c.args.s) c.next_cycle-next.result ∷ [])
@@ -26,8 +25,7 @@ due c = reopen-by _ _ _ c.cycle_at.ensures c.next_cycle-next.ensures
 
 -- the blankings
 blanked : (c : After-blank_stale-blanked)
-    → 
-    let g = c.args.g in
+    → let g = c.args.g in
     Did g c.args.image.now
     (stale_blanks (blocks_of g) (sector_no c.args.s) c.next_cycle-next.result (image_of (blocks_of g) (sectors_of g) c.args.image.now))
     c.args.budget c.blank_stale-blanked.new.image c.blank_stale-blanked.result
@@ -35,8 +33,7 @@ blanked c = c.blank_stale-blanked.ensures
 
 -- the lead
 led : (c : After-put)
-    → 
-    Did c.args.g c.blank_stale-blanked.new.image
+    → Did c.args.g c.blank_stale-blanked.new.image
     (lead_store (blocks_of c.args.g) (sector_no c.args.s) c.next_cycle-next.result ∷ [])
     c.blank_stale-blanked.result c.put.new.image c.put.result
 led c = rw (c.lead.ensures, ap block_no c.new.ensures, c.blocks-2.ensures) at c.put.ensures

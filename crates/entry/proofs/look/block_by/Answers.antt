@@ -29,8 +29,7 @@ judged_as k form = judge (blocks_of k.args.g) (scan_of k.args.before) form
 
 -- a block that passed the first three tests is judged by its form
 judged : (c : Else-not-is_checked_by)
-    → 
-    looked c.before.before.before.before.before.before.before.before ≡ judged_as c.before.before.before.before.before.before.before.before (rule.head_of c.args.before.data_end c.args.block.now)
+    → looked c.before.before.before.before.before.before.before.before ≡ judged_as c.before.before.before.before.before.before.before.before (rule.head_of c.args.before.data_end c.args.block.now)
 unfolding look cycle_of
 judged c =
     let block : List ℕ = c.args.block.now in
@@ -41,10 +40,8 @@ judged c =
 
 -- and with a right form by its head
 found : (c : In-Right)
-    → 
-    looked c.before.before.before.before.before.before.before.before.before.before ≡ judged_as c.before.before.before.before.before.before.before.before.before.before (some (head_of c.in-Right.head))
+    → looked c.before.before.before.before.before.before.before.before.before.before ≡ judged_as c.before.before.before.before.before.before.before.before.before.before (some (head_of c.in-Right.head))
 found c =
-    
     judged (record { before = c.before.before.before; type_inv = record { block = c.shared_slice_known-2-1.given } })
     ∙ ap (judged_as c.before.before.before.before.before.before.before.before.before.before) (right-form _ (sym c.head_of.ensures.value ∙ c.in-Right.is))
 

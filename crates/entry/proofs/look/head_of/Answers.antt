@@ -36,7 +36,6 @@ behind : (c : After-is_erased-then-length-le-SMALL) {t : Bool} → c.is_erased-t
     → is_erased (drop c.le16-length.result (body_of (block (record { before = c.before.before.before.before.before.before; type_inv = record { block = c.shared_slice_known-1.given } })))) ≡ t
 unfolding body_of
 behind c answer =
-    
     ap is_erased (drop-drop c.le16-length.result 8 (block (record { before = c.before.before.before.before.before.before; type_inv = record { block = c.shared_slice_known-1.given } }))) ∙ erased-rest (8 + c.le16-length.result) (block (record { before = c.before.before.before.before.before.before; type_inv = record { block = c.shared_slice_known-1.given } })) c.is_erased-then-length-le-SMALL.ensures answer
 
 pub returns-then-is_erased : goal.returns-then-is_erased

@@ -10,8 +10,7 @@ use Rattle.image.proofs.entries.entry_block.Goals as goal
 use Rattle.image.proofs.entries.entry_block.Goals.{After-new}
 
 -- the block's number
-at : (c : After-new) → 
-    block_no c.new.result ≡ blocks_of c.args.g - 3 - c.args.n
+at : (c : After-new) → block_no c.new.result ≡ blocks_of c.args.g - 3 - c.args.n
 at c = ap block_no c.new.ensures ∙ ap (λ (b : ℕ). b - 3 - c.args.n) c.blocks-2.ensures
 
 pub block_at-requires : goal.block_at-requires

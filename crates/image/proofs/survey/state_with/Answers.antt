@@ -25,28 +25,22 @@ abbrev seen : Start → List View
 seen k = views_in k.args.g k.args.image.now
 
 -- the spare is the one unfinished sector, and a sector of the geometry
-spare-is : (c : Else-number) → 
-    sectors_in c.args.unfinished ≡ sector_no c.next_sector-spare.result ∷ []
+spare-is : (c : Else-number) → sectors_in c.args.unfinished ≡ sector_no c.next_sector-spare.result ∷ []
 spare-is c =
     c.which.ensures
     ∙ ap (λ (n : ℕ). n ∷ []) (sym c.number.ensures ∙ c.if-number.false ∙ c.number-2.ensures)
 
 follows : (c : Else-number) → sector_no c.next_sector-spare.result ≡ next (length (seen c.before.before.before.before.before.before.before.before.before.before.before)) (sector_no c.args.w)
 follows c =
-    
     c.next_sector-spare.ensures ∙ ap (λ (n : ℕ). next n (sector_no c.args.w)) (sym (views-count c.args.g c.args.image.now))
 
 inside : (c : Else-number) → sector_no c.next_sector-spare.result < sectors_of c.args.g
 inside c =
-    
     omega (arith, c.next_sector-spare.ensures, next-lt (sectors_of c.args.g) (sector_no c.args.w) c.requires.w_bound)
 
 -- what is looked at is the spare
-looked : (c : After-is_unused) → 
-    c.is_unused.result ≡ is_empty (view_at (seen c.before.before.before.before.before.before.before.before.before.before.before.before.before) (sector_no c.next_sector-spare.result)).entries
+looked : (c : After-is_unused) → c.is_unused.result ≡ is_empty (view_at (seen c.before.before.before.before.before.before.before.before.before.before.before.before.before) (sector_no c.next_sector-spare.result)).entries
 looked c =
-    
-    
     let read = view-read c.args.g c.args.image.now _ (inside (record { before = c.before.before.before; type_inv = record { image = c.type_inv.image } })) c.sector_bytes.ensures in
     c.is_unused.ensures ∙ ap (λ (v : View). is_empty v.entries) (sym read)
 

@@ -20,18 +20,15 @@ use Rattle.image.proofs.survey.survey.Goals.{After-class_of-class, After-loop-s,
 
 abbrev views_at : At-loop-s → List View
 views_at c =
-    
     views_in c.args.g c.args.image.now
 
 few : (c : At-loop-s) → length (views_at c) ≤ max_sectors
 few c =
-    
     omega (arith, views-count c.args.g c.args.image.now, c.requires.sound.sectors_to)
 
 -- in a turn s is a sector, and after the loop all are read
 inside : (c : In-loop-s) → c.loop-s.s < length (views_at (record { before = c.before.before; type_inv = record { image = c.type_inv.image } }))
 inside c =
-    
     omega (arith, c.loop-s-test.true, c.sectors-count.ensures, views-count c.args.g c.args.image.now)
 
 low : (c : In-loop-s) → c.loop-s.s < max_sectors
@@ -39,19 +36,15 @@ low c = omega (arith, inside c, few (record { before = c.before.before; type_inv
 
 all_read : (c : After-loop-s) → length (views_at (record { before = c.before.before; type_inv = record { image = c.type_inv.image } })) ≤ c.loop-s.s
 all_read c =
-    
     omega (arith, c.loop-s-test.false, c.sectors-count.ensures, views-count c.args.g c.args.image.now)
 
 -- the sector that is read is s
 reads : (c : After-new) → sector_no c.new.result < sectors_of c.args.g
 reads c =
-    
     omega (arith, ap sector_no c.new.ensures, inside (record { before = c.before.before; type_inv = record { image = c.type_inv.image } }), views-count c.args.g c.args.image.now)
 
 class-is : (c : After-class_of-class) → c.class_of-class.result ≡ class_as (view_at (views_at (record { before = c.before.before.before.before.before; type_inv = record { image = c.type_inv.image } })) c.loop-s.s)
 class-is c =
-    
-    
     c.class_of-class.ensures
     ∙ ap class_as (sym (view-read c.args.g c.args.image.now (sector_no c.new.result) (reads (record { before = c.before.before.before; type_inv = record { image = c.type_inv.image } })) c.sector_bytes.ensures))
     ∙ ap (λ (t : ℕ). class_as (view_at (views_at (record { before = c.before.before.before.before.before; type_inv = record { image = c.type_inv.image } })) t)) (ap sector_no c.new.ensures)

@@ -13,10 +13,8 @@ use Rattle.image.proofs.EntryBlocks.{entries-few}
 use Rattle.live.proofs.counts.count_at.Goals as goal
 use Rattle.live.proofs.counts.count_at.Goals.{After-take_entries-entries}
 
-counted : (c : After-take_entries-entries) → 
-    c.take_entries-entries.result.count ≡ length (view_at (views_in c.args.g c.args.image.now) (sector_no c.args.s)).entries
+counted : (c : After-take_entries-entries) → c.take_entries-entries.result.count ≡ length (view_at (views_in c.args.g c.args.image.now) (sector_no c.args.s)).entries
 counted c =
-    
     read_count c.args.g c.args.image.now (sector_no c.args.s) c.requires.s_bound c.cycle_at-cycle.ensures c.sector_bytes.ensures c.take_entries-entries.ensures
 
 pub take_entries-entries-requires : goal.take_entries-entries-requires

@@ -13,7 +13,6 @@ use Rattle.live.proofs.counts.turned.Goals.{After-number-after}
 
 low : (c : After-number-after) → c.number-after.result < max_sectors
 low c =
-    
     omega (arith, c.number-after.ensures, c.next_sector.ensures, next-lt (sectors_of c.args.g) (sector_no c.args.active.sector) c.requires.sector_bound, c.requires.g_bound)
 
 pub offset_bounds-all-after : goal.offset_bounds-all-after

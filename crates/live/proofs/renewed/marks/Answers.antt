@@ -16,10 +16,8 @@ low : (c : After-number-number) → c.number-number.result < 64
 low c = omega (arith, c.number-number.ensures, c.requires.s_bound, c.requires.backs.sound.sectors_to)
 
 -- the entries that were counted are those of the sector
-counted : (c : After-number-number) → 
-    get_or c.args.counts c.number-number.result 0 ≡ length (entries_at c.args.g c.args.image.now c.args.s)
+counted : (c : After-number-number) → get_or c.args.counts c.number-number.result 0 ≡ length (entries_at c.args.g c.args.image.now c.args.s)
 counted c =
-    
     rw c.number-number.ensures (entries-noted c.args.g c.args.image.now (sector_no c.args.s) c.requires.s_bound c.requires.counts)
 
 pub offset_bounds-counts-number : goal.offset_bounds-counts-number

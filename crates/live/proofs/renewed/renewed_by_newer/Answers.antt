@@ -23,34 +23,24 @@ use Rattle.live.proofs.renewed.renewed_by_newer.Goals as goal
 use Rattle.live.proofs.renewed.renewed_by_newer.Goals.{After-number-number, After-number-spare, At-loop-g, In-loop-g}
 
 -- the sector that is ignored
-spare-is : (c : After-number-spare) → 
-    c.number-spare.result ≡ next (sectors_of c.args.g) (sector_no c.args.w)
+spare-is : (c : After-number-spare) → c.number-spare.result ≡ next (sectors_of c.args.g) (sector_no c.args.w)
 spare-is c = c.number-spare.ensures ∙ c.next_sector.ensures
 
-spare-inside : (c : After-number-spare) → 
-    c.number-spare.result < length (views_in c.args.g c.args.image.now)
+spare-inside : (c : After-number-spare) → c.number-spare.result < length (views_in c.args.g c.args.image.now)
 spare-inside c =
-    
     omega (arith, spare-is c, next-lt (sectors_of c.args.g) (sector_no c.args.w) c.requires.w_bound, views-count c.args.g c.args.image.now)
 
 -- the sector that is passed is one of the image, and its count is that of its entries
-inside : (c : At-loop-g) → 
-    sector_no c.loop-g.t < sectors_of c.args.g
+inside : (c : At-loop-g) → sector_no c.loop-g.t < sectors_of c.args.g
 inside c =
-    
     omega (arith, passing-inside (spare-inside (record { before = c.before.before.before; type_inv = record { links = c.shared_slice_known-3-1.given; heads = c.shared_slice_known-2-1.given; image = c.shared_slice_known-1.given } })) c.loop-g.invariant.1, views-count c.args.g c.args.image.now)
 
 low : (c : After-number-number) → c.number-number.result < 64
 low c =
-    
-    
     omega (arith, c.number-number.ensures, inside (record { before = c.before.before.before.before; type_inv = record { links = c.type_inv.links; heads = c.type_inv.heads; image = c.type_inv.image } }), c.requires.backs.sound.sectors_to)
 
-counted : (c : After-number-number) → 
-    get_or c.args.counts c.number-number.result 0 ≡ length (entries_at c.args.g c.args.image.now c.loop-g.t)
+counted : (c : After-number-number) → get_or c.args.counts c.number-number.result 0 ≡ length (entries_at c.args.g c.args.image.now c.loop-g.t)
 counted c =
-    
-    
     rw c.number-number.ensures (entries-noted c.args.g c.args.image.now (sector_no c.loop-g.t) (inside (record { before = c.before.before.before.before; type_inv = record { links = c.type_inv.links; heads = c.type_inv.heads; image = c.type_inv.image } })) c.requires.counts)
 
 -- it is not the one that is ignored

@@ -18,8 +18,7 @@ use Rattle.live.proofs.renewed.renewed_by_sector.Goals as goal
 use Rattle.live.proofs.renewed.renewed_by_sector.Goals.{in-At, in_default, In-loop-n}
 
 -- in a turn entry n is one of sector t
-inside : (c : In-loop-n) → 
-    c.loop-n.n < length (entries_at c.args.g c.args.image.now c.args.t)
+inside : (c : In-loop-n) → c.loop-n.n < length (entries_at c.args.g c.args.image.now c.args.t)
 inside c = omega (arith, c.loop-n-test.true, c.requires.entries_value)
 
 pub loop-n-init : goal.loop-n-init
@@ -58,7 +57,6 @@ loop-n-preserved c =
 
 pub returns : goal.returns
 returns c = λ later same.
-    
     let es : List Entry = entries_at c.args.g c.args.image.now c.args.s in
     let ts : List Entry = entries_at c.args.g c.args.image.now c.args.t in
     let past : length ts ≤ c.loop-n.n = omega (arith, c.loop-n-test.false, c.requires.entries_value) in

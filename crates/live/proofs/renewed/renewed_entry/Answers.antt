@@ -14,11 +14,9 @@ use Rattle.live.proofs.renewed.renewed_entry.Goals.{After-id_in-id, After-shared
 
 low : (c : After-shared_slice_known-3-1) → c.args.n + 3 ≤ blocks_of c.args.g
 low c =
-    
     entry-low c.args.g c.args.image.now c.requires.backs (sector_no c.args.t) c.args.n c.requires.t_bound c.requires.n_in_bounds
 
-id-read : (c : After-id_in-id) → 
-    id_of (entry_block c.args.g c.args.image.now (sector_no c.args.t) c.args.n) ≡ c.id_in-id.result
+id-read : (c : After-id_in-id) → id_of (entry_block c.args.g c.args.image.now (sector_no c.args.t) c.args.n) ≡ c.id_in-id.result
 id-read c = rw c.entry_block-block.ensures at (sym c.id_in-id.ensures)
 
 pub entry_block-block-requires : goal.entry_block-block-requires

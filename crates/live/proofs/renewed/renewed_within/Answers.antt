@@ -18,14 +18,11 @@ use Rattle.live.proofs.renewed.renewed_within.Goals as goal
 use Rattle.live.proofs.renewed.renewed_within.Goals.{in-At, in_default, In-loop-n}
 
 -- in a turn entry n is one of the sector's, and has a mark
-inside : (c : In-loop-n) → 
-    c.loop-n.n < length (entries_at c.args.g c.args.image.now c.args.s)
+inside : (c : In-loop-n) → c.loop-n.n < length (entries_at c.args.g c.args.image.now c.args.s)
 inside c = omega (arith, c.loop-n-test.true, c.requires.count_value)
 
-few : (c : In-loop-n) → 
-    length (entries_at c.args.g c.args.image.now c.args.s) < max_marks
+few : (c : In-loop-n) → length (entries_at c.args.g c.args.image.now c.args.s) < max_marks
 few c =
-    
     entries-few c.args.g c.args.image.now (sector_no c.args.s) c.requires.s_bound c.requires.backs.sound
 
 pub loop-n-init : goal.loop-n-init

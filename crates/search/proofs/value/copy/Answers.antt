@@ -14,7 +14,6 @@ use Rattle.search.proofs.value.copy.Goals.{At-loop-i}
 -- the buffer keeps its length
 same : (c : At-loop-i) → length c.loop-i.buffer ≡ length c.args.buffer.now
 same c =
-    
     ap length c.loop-i.invariant.1
     ∙ length-paste c.args.buffer.now 0 c.args.bytes.now c.loop-i.i (omega (arith, c.requires, c.loop-i.invariant.0)) c.loop-i.invariant.0
 

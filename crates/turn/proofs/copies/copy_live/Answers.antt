@@ -41,19 +41,15 @@ apart : (k : Start) → next (sectors_of k.args.g) (sector_no k.args.active.sect
 apart k = next-ne (sectors_of k.args.g) (sector_no k.args.active.sector) k.requires.backs.sound.sectors_from
 
 -- in a turn entry n is one of the sector's, and its mark is the flag
-here : (c : In-loop-n) → 
-    c.loop-n.n < length (view_at (views_in c.args.g c.args.image.now) (next (sectors_of c.args.g) (sector_no c.args.active.sector))).entries
+here : (c : In-loop-n) → c.loop-n.n < length (view_at (views_in c.args.g c.args.image.now) (next (sectors_of c.args.g) (sector_no c.args.active.sector))).entries
 here c = omega (arith, c.loop-n-test.true, c.requires.count_value)
 
 marked : (c : In-loop-n) → c.loop-n.n < max_marks
 marked c =
-    
     omega (arith, here c, entries-few c.args.g c.args.image.now (next (sectors_of c.args.g) (sector_no c.args.active.sector)) (oldest-inside c.before.before.before.before.before) c.requires.backs.sound)
 
-flag : (c : After-has) → 
-    get_or (live_flags_in (sector_no c.args.active.sector) (next (sectors_of c.args.g) (sector_no c.args.active.sector)) (views_in c.args.g c.args.image.now)) c.loop-n.n false ≡ c.has.result
+flag : (c : After-has) → get_or (live_flags_in (sector_no c.args.active.sector) (next (sectors_of c.args.g) (sector_no c.args.active.sector)) (views_in c.args.g c.args.image.now)) c.loop-n.n false ≡ c.has.result
 flag c =
-    
     sym
     (c.has.ensures
     ∙ ap (λ (l : List Bool). get_or l c.loop-n.n false) c.requires.live_value

@@ -28,14 +28,12 @@ state-by k is = sym k.requires.status_value ∙ ap status_of is
 working-inside : (c : In-NotReopened) → sector_no c.in-NotReopened.w < sectors_of c.args.g
 unfolding Is
 working-inside c =
-    
     let w : ℕ = sector_no c.in-NotReopened.w in
     omega (arith, (state-is (views_in c.args.g c.args.image.now) (not_reopened w) (state-by c.before.before.before c.in-NotReopened.is)).here, views-count c.args.g c.args.image.now)
 
 unfinished-inside : (c : In-MidTurn) → sector_no c.in-MidTurn.u < sectors_of c.args.g
 unfolding Is
 unfinished-inside c =
-    
     let u : ℕ = sector_no c.in-MidTurn.u in
     omega (arith, (state-is (views_in c.args.g c.args.image.now) (mid_turn u) (state-by c.before.before.before c.in-MidTurn.is)).here, views-count c.args.g c.args.image.now)
 

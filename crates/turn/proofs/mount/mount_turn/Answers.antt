@@ -25,18 +25,15 @@ use Rattle.turn.proofs.mount.mount_turn.Goals as goal
 use Rattle.turn.proofs.mount.mount_turn.Goals.{After-reopen-left}
 
 -- the reopening shows at once
-reopening : (d : After-reopen-left) → 
-    IsAtomic (blocks_of d.args.g) (sectors_of d.args.g) (reopen (blocks_of d.args.g) (sector_no d.args.u)) (blocks_in d.args.g d.args.image.now)
+reopening : (d : After-reopen-left) → IsAtomic (blocks_of d.args.g) (sectors_of d.args.g) (reopen (blocks_of d.args.g) (sector_no d.args.u)) (blocks_in d.args.g d.args.image.now)
     (changed reopened_view (sector_no d.args.u) (views_in d.args.g d.args.image.now))
 reopening d =
-    
     let typed = at_each (λ b. b < 256) 0 d.args.image.now (λ j h. omega (arith, d.slice_known-1.given j)) in
     let whole = image-of-bytes (blocks_of d.args.g) (sectors_of d.args.g) d.args.image.now typed d.requires.backs.sized in
     reopen-atomic d.requires.backs.sound.blocks_from whole d.requires.u_bound
 
 emptied : (d : After-reopen-left) → d.reopen-left.result.cut ≡ false → (view_at (views_in d.args.g d.reopen-left.new.image) (sector_no d.args.u)).entries ≡ []
 emptied d whole =
-    
     ap (λ (v : View). v.entries) (step-here reopened_view (sector_no d.args.u) d.requires.backs (reopening d) d.reopen-left.ensures whole d.requires.u_bound)
 
 pub returns-then-left : goal.returns-then-left
@@ -61,9 +58,7 @@ finish_turn-turned-requires c =
 pub returns : goal.returns
 returns c =
     let g = c.args.g in
-    
     let u : ℕ = sector_no c.args.u in
-    
     let here : sector_no c.unused-empty.result.sector ≡ u = ap (λ (x : Active). sector_no x.sector) c.unused-empty.ensures in
     did-and-then (reopen (blocks_of g) u) (finish_turn (blocks_of g) (sectors_of g) u) c.requires.backs (atomic-lies c.requires.backs (reopening (goal.at.returns c).After-reopen-left) c.reopen-left.ensures) c.reopen-left.ensures c.if-left.false
     (subst (λ (s : ℕ). Did g c.reopen-left.new.image (finish_turn (blocks_of g) (sectors_of g) s (blocks_in g c.reopen-left.new.image)) c.reopen-left.result c.finish_turn-turned.new.image c.finish_turn-turned.result.budget)
