@@ -18,7 +18,6 @@ use Rattle.rules.proofs.Crash.Reads.{settled-read}
 use Rattle.rules.proofs.Crash.ReadBack.{read_back, delete-back}
 use Rattle.rules.proofs.Crash.MountShows.{no_store_lem, mount-shows}
 use Rattle.answer.specs.declared.Outcome.{Outcome}
-use Rattle.answer.specs.declared.Reply.{Reply}
 use Rattle.answer.specs.Answer.{Leaves}
 use Rattle.acceptance.specs.Demands.{Storing, Obeys, ReadsBack, OneMeaning, Demand2}
 use Rattle.acceptance.proofs.Numbers.{same-reply}

@@ -1,11 +1,9 @@
 -- What a call that stores leaves: by the budget that its steps left, and where it was refused.
 -- Assumes nothing.
 use mathlib.Core.Path.{◌≡◌, refl, sym, ap, subst, ◌∙◌}
-use mathlib.Core.Bool.{true, false}
-use mathlib.Core.List.{List, []}
+use mathlib.Core.List.{List}
 use Prim.Native.Nat.{ℕ, ◌*◌, ◌-◌, ◌/◌, ◌≤◌}
 use native.Mathlib.Omega.{arith}
-use lib.ListN.{take}
 use Rattle.rules.specs.Ground.{block_size}
 use Rattle.rules.specs.Stores.{Store, apply_bytes}
 use Rattle.rules.specs.Calls as rule

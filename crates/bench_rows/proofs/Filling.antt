@@ -11,7 +11,6 @@ use borrow.Author.Tests.{le-leb}
 use Rattle.rules.specs.Notation.{Each}
 use Rattle.rules.specs.Ground.{Image, block_size, kept_from_values, image_of, block_at}
 use Rattle.rules.specs.Entry.{done_block}
-use Rattle.rules.specs.Look as look
 use Rattle.rules.specs.Look.{start, need_of, data_blocks, is_within}
 use Rattle.rules.specs.Reading.{Entry, View, after_all, end_block}
 use Rattle.rules.specs.Meaning.{at_rest, views_of, view_at, state_of, Is, needs_of}

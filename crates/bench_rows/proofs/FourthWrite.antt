@@ -17,7 +17,7 @@ use Rattle.rules.specs.Reading.{Entry, View, after_all}
 use Rattle.rules.specs.Meaning.{views_of, view_at, next, all_but, live_each, needs_of}
 use Rattle.rules.specs.Stores.{Store, Kind, apply, done_entry, value_entry, least_turns}
 use Rattle.rules.specs.Calls.{Due, make, done, answer, made, write_on, leaves}
-use Rattle.rules.specs.Demands.{write, IsUser, IsId, plenty, budget, due, run, step, views}
+use Rattle.rules.specs.Demands.{write, IsUser, IsId, plenty, budget, due, run, step}
 use Rattle.bench_rows.specs.BenchSheet.{Fresh, image_after, answers, Bytes, trace, three_writes, fourth_write, FourthWrite}
 use Rattle.rules.proofs.Terms.{IsProper}
 use Rattle.rules.proofs.Basics.Notation.{if-true}

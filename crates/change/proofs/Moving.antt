@@ -11,7 +11,7 @@ use lib.ListN.{length, set, length-set}
 use Rattle.rules.specs.Notation.{Each, concat}
 use Rattle.rules.specs.Ground.{Image, max_sectors}
 use Rattle.rules.specs.Reading.{Entry, View}
-use Rattle.rules.specs.Meaning.{at_rest, Is, state_of, views_of, view_at, next, all_but, lookup}
+use Rattle.rules.specs.Meaning.{at_rest, Is, state_of, views_of, view_at, next, lookup}
 use Rattle.rules.specs.Stores.{apply, nothing, turn, turns, moved}
 use Rattle.rules.proofs.Terms.{IsImage}
 use Rattle.rules.proofs.Ring.Order.{all_but_two, ring, next-lt}
@@ -35,7 +35,7 @@ use Rattle.budget.specs.Budget.{Did, Consistent}
 use Rattle.budget.proofs.Laws.{did_none, did-backs, did-consistent, did-whole, did-and-then, did-and-then-cut}
 use Rattle.append.proofs.Appending.{blocks_in}
 use Rattle.append.specs.declared.Appended.{Appended}
-use Rattle.turn.specs.Turn.{Moved, Turned}
+use Rattle.turn.specs.Turn.{Turned}
 use Rattle.change.specs.Ready.{Opened}
 
 -- ---- one turn from rest

@@ -9,7 +9,6 @@ use Rattle.entry.specs.declared.Head.{Head}
 use Rattle.entry.specs.Answer.{head_of, length_of, limit_of}
 use Rattle.image.specs.declared.active.Active.{Active}
 use Rattle.image.specs.Answer.{views_in, Carries}
-use Rattle.live.specs.Counts.{Counts}
 
 -- An image at rest, with what is carried of its working sector.
 pub record Opened (g : Geometry) (bytes : List ℕ) (active : Active) : Type 0 where

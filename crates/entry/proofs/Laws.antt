@@ -2,13 +2,11 @@
 -- Assumes nothing.
 use mathlib.Core.Path.{◌≡◌, refl, sym, ap, ◌∙◌}
 use mathlib.Core.Bool.{Bool, true, false}
-use mathlib.Core.List.{List, [], ◌∷◌}
+use mathlib.Core.List.{List}
 use mathlib.Core.Option.{Option, none, some}
 use Prim.Native.Nat.{ℕ, ◌-◌, ◌<◌, ◌^◌}
 use native.Mathlib.Omega.{arith}
 use lib.ListN.{length, take, drop}
-use types.Run.{OneOf, miss}
-use denote.Enum.Declared.{tag_of}
 use Rattle.rules.specs.Notation.{is_erased}
 use Rattle.rules.specs.Look as rule
 use Rattle.rules.specs.Look.{data_blocks, is_entry}
@@ -20,7 +18,6 @@ use Rattle.entry.specs.declared.Head.TheVariants.{Done, Deletion, Value}
 use Rattle.entry.specs.declared.Verdict.TheVariants as verdict
 use Rattle.entry.specs.declared.look.Form.TheVariants.{Right, Wrong}
 use Rattle.entry.specs.Answer.{head_of, head_as, length_of, form_as, verdict_as}
-use Rattle.entry.specs.contracts.Verdict.{the_type}
 
 -- ---- heads and forms
 

@@ -12,7 +12,6 @@ use Rattle.rules.specs.Ground.{block_size, legal_sizes, image_of, block_at, plac
 use Rattle.rules.proofs.Basics.Notation.{took-else}
 use Rattle.rules.proofs.Format.Ground.{IsLegal, legal-true, legal-false, legal-bounds, length-store-bytes, read-block, length-block-bytes}
 use Rattle.layout.specs.declared.Geometry.{Geometry}
-use Rattle.layout.specs.declared.Sizes.{Sizes}
 use Rattle.layout.specs.declared.Sizes.TheVariants.{Legal, Illegal}
 use Rattle.layout.specs.Geometry.{blocks_of, sectors_of, sizes_of, Sound, Backs}
 

@@ -8,7 +8,7 @@ use Prim.Native.Nat.{ℕ, zero, suc, ◌+◌, ◌-◌, ◌<◌, ◌≤◌}
 use native.Mathlib.Decide.{dec_lt}
 use native.Mathlib.Omega.{arith}
 use lib.ListN.{length, get_or}
-use Rattle.rules.specs.Meaning.{at_rest, view_at, next, ring_sector, counting, live_in, needs_of}
+use Rattle.rules.specs.Meaning.{view_at, next, ring_sector, live_in, needs_of}
 use Rattle.rules.specs.Stores.{least_turns}
 use Rattle.rules.proofs.Ring.Order.{next-lt}
 use Rattle.rules.proofs.Ring.Newest.{ring-first, ring-up, ring-other}
@@ -18,7 +18,6 @@ use Rattle.layout.specs.Geometry.{blocks_of, sectors_of, Backs}
 use Rattle.image.specs.Answer.{views_in}
 use Rattle.image.proofs.Sectors.{views-count}
 use Rattle.live.proofs.LiveNeeds.{needs-few}
-use Rattle.live.proofs.FitLaws.{fits-open}
 
 -- It does not fit after fewer than t turns; s is the sector before the one that turn t copies from, at first the spare.
 pub record Fitting (need limit : ℕ) (g : Geometry) (bytes : List ℕ) (w t s : ℕ) : Type 0 where

@@ -14,7 +14,6 @@ use mathlib.Core.List.{List, [], ◌∷◌, ◌++◌, map}
 use mathlib.Core.Option.{none}
 use mathlib.Core.Path.{◌≡◌, refl}
 use lib.ListN.{replicate}
-use Rattle.rules.specs.Stores as stores
 
 -- all definitions opened at once: `unfolding computing` lets a statement compute
 unfoldable pub computing : ℕ

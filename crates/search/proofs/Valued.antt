@@ -1,26 +1,25 @@
 -- The value that an entry tells, where it lies: by the fields of the entry's block, and what a caller learns of it.
 -- Assumes nothing.
-use mathlib.Core.Path.{◌≡◌, refl, sym, ap, ap₂, subst, ◌∙◌}
+use mathlib.Core.Path.{◌≡◌, refl, sym, ap, ◌∙◌}
 use mathlib.Core.Bool.{true, false}
-use mathlib.Core.List.{List, []}
+use mathlib.Core.List.{List}
 use mathlib.Core.Option.{Option, none, some}
 use Prim.Native.Nat.{ℕ, ◌+◌, ◌*◌, ◌-◌, ◌<◌, ◌≤◌}
 use native.Mathlib.Omega.{arith}
-use lib.Dec.{ltb, eqb}
+use lib.Dec.{ltb}
 use lib.ListN.{length, get_or, take, drop}
 use lib.Seq.{drop-drop}
 use borrow.Author.Tests.{lt-ltb, le-ltb, ltb-false}
-use Rattle.rules.specs.Notation.{when, number_of}
-use Rattle.rules.specs.Ground.{Block, Image, Sector, block_size, sector_of, image_of, block_at, place_of}
-use Rattle.rules.specs.Checksum.{crc32}
+use Rattle.rules.specs.Notation.{when}
+use Rattle.rules.specs.Ground.{Block, Image, block_size, image_of, block_at, place_of}
 use Rattle.rules.specs.Entry.{length_of, offset_of, crc32_of}
 use Rattle.rules.specs.Look.{Head, done, deletion, value}
-use Rattle.rules.specs.Reading.{Entry, View, is_long, view_of}
+use Rattle.rules.specs.Reading.{Entry, is_long}
 use Rattle.rules.specs.Meaning.{view_at, next, at_rest, history, lookup, is_value, length_in, value_of, is_sound}
 use Rattle.rules.proofs.Basics.Notation.{if-true, if-false, refuted, by-test, when_true, when_false, took-then, took-else}
 use Rattle.rules.proofs.Basics.Lists.{part-of-take}
-use Rattle.rules.proofs.Format.Ground.{sector-of-image, place-in-sector, length-sector-bytes, sector-fits}
-use Rattle.rules.proofs.Blocks.Lying.{LiesAt, LiesLong, lies_at}
+use Rattle.rules.proofs.Format.Ground.{place-in-sector, length-sector-bytes, sector-fits}
+use Rattle.rules.proofs.Blocks.Lying.{LiesAt}
 use Rattle.layout.specs.declared.Geometry.{Geometry}
 use Rattle.layout.specs.declared.Place.{Place}
 use Rattle.layout.specs.Geometry.{blocks_of, sectors_of, Backs}
@@ -30,12 +29,11 @@ use Rattle.search.specs.declared.Check.TheVariants as check
 use Rattle.search.specs.declared.Found.{Found}
 use Rattle.search.specs.declared.Found.TheVariants as found
 use Rattle.image.specs.Answer.{views_in}
-use Rattle.image.specs.Answer.{no_entry}
 use Rattle.search.specs.Search.{seek, told_at}
 use Rattle.search.specs.Value.{entry_in, value_place, check_as, passes, found_in, found_as}
 use Rattle.image.proofs.Sectors.{views-count}
 use Rattle.image.proofs.EntryBlocks.{entry-lies}
-use Rattle.search.proofs.SearchLaws.{StandsAt, sought-stands, sought-tells}
+use Rattle.search.proofs.SearchLaws.{sought-stands, sought-tells}
 
 -- ---- the kind by the length
 

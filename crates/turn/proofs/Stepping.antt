@@ -1,29 +1,28 @@
 -- The steps of a turn: what an atomic step leaves, and how a turn goes on after its close and its copies.
 -- Assumes nothing.
-use mathlib.Core.Path.{◌≡◌, refl, sym, ap, subst, ◌∙◌}
+use mathlib.Core.Path.{◌≡◌, sym, ap, ◌∙◌}
 use mathlib.Core.Bool.{true, false, false≢true}
-use mathlib.Core.List.{List, []}
+use mathlib.Core.List.{List}
 use Prim.Native.Nat.{ℕ, ◌<◌}
 use native.Mathlib.Omega.{arith}
-use lib.ListN.{length}
 use Rattle.rules.specs.Notation.{Each}
 use Rattle.rules.specs.Ground.{Image}
 use Rattle.rules.specs.Reading.{View}
-use Rattle.rules.specs.Meaning.{views_of, view_at, next}
+use Rattle.rules.specs.Meaning.{views_of, view_at}
 use Rattle.rules.specs.Stores.{Plan, ◌and_then◌}
 use Rattle.rules.proofs.Terms.{IsAtomic, changed}
 use Rattle.rules.proofs.Blocks.OnBytes.{Lies, inside-lie}
 use Rattle.rules.proofs.Ring.History.{changed-here, changed-other}
 use Rattle.layout.specs.declared.Geometry.{Geometry}
 use Rattle.layout.specs.Geometry.{blocks_of, sectors_of, Backs}
-use Rattle.image.specs.Answer.{views_in, active_as}
+use Rattle.image.specs.Answer.{views_in}
 use Rattle.image.proofs.Sectors.{views-count}
 use Rattle.budget.specs.declared.Budget.{Budget}
 use Rattle.budget.specs.Budget.{Did, Consistent}
 use Rattle.budget.proofs.Laws.{did-whole, did-and-then, did-and-then-cut}
 use Rattle.append.specs.declared.Appended.{Appended}
 use Rattle.append.proofs.Appending.{blocks_in}
-use Rattle.turn.specs.Turn.{Moved, Turned}
+use Rattle.turn.specs.Turn.{Turned}
 
 -- ---- an atomic step
 

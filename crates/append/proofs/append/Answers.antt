@@ -51,8 +51,11 @@ put_data-laid-requires c =
     record { backs = c.requires.backs; sector_bound = c.requires.carries.inside; consistent = c.requires.consistent; value_bound = inside (goal.at.put_data-laid-requires c).Start }
 
 pub returns-then-laid : goal.returns-then-laid
-returns-then-laid c = record { did = append-cut c.args.g c.args.image.now (sector_no c.args.active.sector) c.requires.backs.sound c.requires.carries.inside c.requires.carries.told
-          (due (goal.at.returns-then-laid c).Start) (laid (goal.at.returns-then-laid c).After-put_data-laid) c.requires.consistent c.if-laid.true; active = λ whole. absurd (false≢true (sym whole ∙ c.if-laid.true)) }
+returns-then-laid c = record {
+  did = append-cut c.args.g c.args.image.now (sector_no c.args.active.sector) c.requires.backs.sound c.requires.carries.inside c.requires.carries.told
+      (due (goal.at.returns-then-laid c).Start) (laid (goal.at.returns-then-laid c).After-put_data-laid) c.requires.consistent c.if-laid.true;
+  active = λ whole. absurd (false≢true (sym whole ∙ c.if-laid.true));
+}
 
 pub entry_bytes-bytes-requires : goal.entry_bytes-bytes-requires
 entry_bytes-bytes-requires c =
@@ -72,5 +75,8 @@ returns c =
     (rw (value-count 0 v) (inside (goal.at.returns c).Start)) (value-sized 0 v)) in
     let stored =
     subst (λ (h : rule.Head). Did c.args.g c.put_data-laid.new.image (entry_stores (blocks_of c.args.g) c.args.active h c.entry_bytes-bytes.result (blocks_in c.args.g c.put_data-laid.new.image)) c.put_data-laid.result c.put_entry.new.image c.put_entry.result.budget)
-    (sym same) c.put_entry.ensures.did in record { did = append-did c.args.g c.args.image.now (sector_no c.args.active.sector) c.requires.backs.sound c.requires.carries.inside c.requires.carries.told
-          (due (goal.at.returns c).Start) (laid (goal.at.returns c).After-put_data-laid) c.requires.backs lie c.if-laid.false c.entry_bytes-bytes.ensures stored; active = λ whole. c.put_entry.ensures.active }
+    (sym same) c.put_entry.ensures.did in record {
+      did = append-did c.args.g c.args.image.now (sector_no c.args.active.sector) c.requires.backs.sound c.requires.carries.inside c.requires.carries.told
+          (due (goal.at.returns c).Start) (laid (goal.at.returns c).After-put_data-laid) c.requires.backs lie c.if-laid.false c.entry_bytes-bytes.ensures stored;
+      active = λ whole. c.put_entry.ensures.active;
+    }

@@ -1,6 +1,5 @@
 -- `turns`. The loop's invariant: whatever finishes the turns still due finishes them all (`Moving`).
 -- Assumes nothing.
-use Prim.Native.Nat.{◌-◌}
 use Rattle.layout.specs.Numbers.{sector_no}
 use Rattle.change.proofs.Moving.{Turning}
 use Rattle.change.proofs.turns.Given as goal

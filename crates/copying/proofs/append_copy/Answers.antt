@@ -130,8 +130,11 @@ copy_data-laid-requires c =
     record { backs = c.requires.backs; from_bound = c.requires.from_bound; sector_bound = (carried (goal.at.copy_data-laid-requires c).Start).inside; fact = c.requires.fact; consistent = c.requires.consistent; length_bound = source-inside (goal.at.copy_data-laid-requires c).After-source_of-source; length_bound_2 = target-inside (goal.at.copy_data-laid-requires c).After-source_of-source }
 
 pub returns-then-laid : goal.returns-then-laid
-returns-then-laid c = record { did = append-cut c.args.g c.args.image.now (sector_no c.args.active.sector) c.requires.backs.sound (carried (goal.at.returns-then-laid c).Start).inside (carried (goal.at.returns-then-laid c).Start).told (entry_from (goal.at.returns-then-laid c).Start) (laid (goal.at.returns-then-laid c).After-copy_data-laid)
-          c.requires.consistent c.if-laid.true; active = λ whole. absurd (false≢true (sym whole ∙ c.if-laid.true)) }
+returns-then-laid c = record {
+  did = append-cut c.args.g c.args.image.now (sector_no c.args.active.sector) c.requires.backs.sound (carried (goal.at.returns-then-laid c).Start).inside (carried (goal.at.returns-then-laid c).Start).told (entry_from (goal.at.returns-then-laid c).Start) (laid (goal.at.returns-then-laid c).After-copy_data-laid)
+      c.requires.consistent c.if-laid.true;
+  active = λ whole. absurd (false≢true (sym whole ∙ c.if-laid.true));
+}
 
 pub put_entry-requires : goal.put_entry-requires
 put_entry-requires c =
@@ -143,5 +146,8 @@ returns c =
     c.copied-bytes.ensures
     ∙ ap (copy_of c.args.active.cycle c.args.active.scan.data_end) (block-is (goal.at.returns c).After-block_of-block)
     ∙ sym ((told (goal.at.returns c).After-slice_known-1).bytes c.args.active.cycle c.args.active.scan.data_end) in
-    let stored = rw (sym (head-is (goal.at.returns c).After-source_of-source)) at c.put_entry.ensures.did in record { did = append-did c.args.g c.args.image.now (sector_no c.args.active.sector) c.requires.backs.sound (carried (goal.at.returns c).Start).inside (carried (goal.at.returns c).Start).told (entry_from (goal.at.returns c).Start) (laid (goal.at.returns c).After-copy_data-laid)
-          c.requires.backs (lie (goal.at.returns c).After-source_of-source) c.if-laid.false written stored; active = λ whole. c.put_entry.ensures.active ∙ ap (with_entry c.args.active) (sym (head-is (goal.at.returns c).After-source_of-source)) }
+    let stored = rw (sym (head-is (goal.at.returns c).After-source_of-source)) at c.put_entry.ensures.did in record {
+      did = append-did c.args.g c.args.image.now (sector_no c.args.active.sector) c.requires.backs.sound (carried (goal.at.returns c).Start).inside (carried (goal.at.returns c).Start).told (entry_from (goal.at.returns c).Start) (laid (goal.at.returns c).After-copy_data-laid)
+          c.requires.backs (lie (goal.at.returns c).After-source_of-source) c.if-laid.false written stored;
+      active = λ whole. c.put_entry.ensures.active ∙ ap (with_entry c.args.active) (sym (head-is (goal.at.returns c).After-source_of-source));
+    }

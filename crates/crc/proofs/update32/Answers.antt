@@ -1,7 +1,7 @@
 -- `update32`: the CRC from here on, with the register as it is, stays that of all bytes from the start.
 -- A turn's lookup at the low byte, with the rest of the register xored in, is eight steps, by `step32-byte`.
 use mathlib.Core.Path.{◌∙◌, sym, ap}
-use Prim.Native.Nat.{ℕ, ◌-◌, ◌/◌}
+use Prim.Native.Nat.{ℕ, ◌/◌}
 use native.Mathlib.Omega.{arith}
 use lib.Bits.{bit_xor}
 use Rattle.rules.specs.Checksum.{step32}

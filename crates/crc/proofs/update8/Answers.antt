@@ -1,7 +1,6 @@
 -- `update8`: the CRC from here on, with the register as it is, stays that of all bytes from the start.
 -- The register stays below 256, so that with a byte xored in it is an index of the table.
 use mathlib.Core.Path.{refl, ◌∙◌, sym}
-use Prim.Native.Nat.{◌-◌}
 use native.Mathlib.Omega.{arith}
 use lib.Bits.{xor_lt}
 use Rattle.rules.specs.Checksum.{step8}

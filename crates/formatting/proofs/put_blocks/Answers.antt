@@ -1,7 +1,7 @@
 -- `put_blocks`. The loop's invariant: the first b blocks are stored, as far as the budget goes.
 -- Assumes nothing.
 use mathlib.Core.Path.{◌≡◌, sym, ap, ◌∙◌}
-use Prim.Native.Nat.{◌+◌, ◌-◌}
+use Prim.Native.Nat.{◌+◌}
 use native.Mathlib.Omega.{arith}
 use Rattle.rules.specs.Stores.{final_blocks}
 use Rattle.layout.specs.Numbers.{sector_no, block_no}

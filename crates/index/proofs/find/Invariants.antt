@@ -1,7 +1,7 @@
 -- `index::find`: the invariant is that only the entries up to the linked one can name the ID; a turn goes to the next of the bucket.
 -- Assumes nothing.
 use mathlib.Core.List.{List}
-use Prim.Native.Nat.{ℕ, ◌-◌}
+use Prim.Native.Nat.{ℕ}
 use Rattle.rules.specs.Reading.{Entry}
 use Rattle.rules.specs.Meaning.{view_at}
 use Rattle.layout.specs.declared.Geometry.{Geometry}

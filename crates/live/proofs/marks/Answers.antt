@@ -3,7 +3,7 @@
 use mathlib.Core.Path.{◌≡◌, sym, ap, ◌∙◌}
 use mathlib.Core.Bool.{Bool, true, false, not, ◌&&◌}
 use mathlib.Core.List.{List}
-use Prim.Native.Nat.{ℕ, ◌-◌, ◌<◌, ◌≤◌}
+use Prim.Native.Nat.{ℕ, ◌<◌, ◌≤◌}
 use native.Mathlib.Omega.{arith}
 use lib.ListN.{length, get_or, set}
 use lib.Seq.{take_all}
@@ -84,12 +84,12 @@ loop-n-preserved c =
           let room : length flags ≤ max_marks = omega (arith, few (goal.at.loop-n-preserved c).After-number-number, flags-count (goal.at.loop-n-preserved c).After-number-number u) in
           let here : n < length flags = omega (arith, c.loop-n-test.true, flags-count (goal.at.loop-n-preserved c).After-number-number u) in
           elim c.if-is_live.branch [
-            then-is_live w ↦
-              ap marks_of w.live-is ∙ w.add-live.ensures ∙ ap (λ (m : List Bool). set m n true) (c.loop-n.invariant.1 u same)
-              ∙ padded-set max_marks flags room n here (sym (told (goal.at.loop-n-preserved c).After-is_live u same) ∙ w.if-is_live.true)
-          | else-is_live w ↦
-              ap marks_of w.live-is ∙ c.loop-n.invariant.1 u same
-              ∙ padded-kept max_marks flags room n here (sym (told (goal.at.loop-n-preserved c).After-is_live u same) ∙ w.if-is_live.false)
+            | then-is_live w ↦
+                ap marks_of w.live-is ∙ w.add-live.ensures ∙ ap (λ (m : List Bool). set m n true) (c.loop-n.invariant.1 u same)
+                ∙ padded-set max_marks flags room n here (sym (told (goal.at.loop-n-preserved c).After-is_live u same) ∙ w.if-is_live.true)
+            | else-is_live w ↦
+                ap marks_of w.live-is ∙ c.loop-n.invariant.1 u same
+                ∙ padded-kept max_marks flags room n here (sym (told (goal.at.loop-n-preserved c).After-is_live u same) ∙ w.if-is_live.false)
           ]),
     )
 

@@ -92,20 +92,19 @@ pub loop-i-smaller : goal.loop-i-smaller
 loop-i-smaller c = omega (arith, c.loop-i-test.true)
 
 pub loop-i-preserved : goal.loop-i-preserved
-loop-i-preserved c =
-    (
-      omega (arith, c.loop-i-test.true),
-      (λ u same.
-          elim c.if-has.branch [
-            then-has w ↦
-              let step = more (goal.at.loop-i-preserved c).After-has w.value_need-sum.result u w.if-has.true w.value_need-sum.ensures same in
-              omega (arith, w.sum-is, step)
-          | else-has w ↦
-              let dead = sym (told (goal.at.loop-i-preserved c).After-has u same) ∙ w.if-has.false in
-              let passed = needs-passed u (sector_no c.args.s) (views_in c.args.g c.args.image.now) c.loop-i.i (inside (goal.at.loop-i-preserved c).In-loop-i) dead in
-              omega (arith, w.sum-is, passed, c.loop-i.invariant.1 u same)
-          ]),
-    )
+loop-i-preserved c = (
+  omega (arith, c.loop-i-test.true),
+  (λ u same.
+      elim c.if-has.branch [
+        | then-has w ↦
+            let step = more (goal.at.loop-i-preserved c).After-has w.value_need-sum.result u w.if-has.true w.value_need-sum.ensures same in
+            omega (arith, w.sum-is, step)
+        | else-has w ↦
+            let dead = sym (told (goal.at.loop-i-preserved c).After-has u same) ∙ w.if-has.false in
+            let passed = needs-passed u (sector_no c.args.s) (views_in c.args.g c.args.image.now) c.loop-i.i (inside (goal.at.loop-i-preserved c).In-loop-i) dead in
+            omega (arith, w.sum-is, passed, c.loop-i.invariant.1 u same)
+      ]),
+)
 
 pub returns : goal.returns
 returns c =

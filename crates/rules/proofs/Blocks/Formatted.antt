@@ -12,7 +12,7 @@ use lib.Seq.{sets, set-get_or, set-set, get_or-set_same, get_or-set_other, lt-le
 use Rattle.rules.specs.Notation.{if◌then◌else◌, all, pieces, Each, empty, each}
 use Rattle.rules.specs.Ground.{Block, Sector, Image, block_size, sector_of, image_of, store, blank_block}
 use Rattle.rules.specs.Entry.{lead_block, close_block, done_block}
-use Rattle.rules.specs.Stores.{Store, Kind, blank, apply, blank_store, final_store, final_blocks, final_sectors, format}
+use Rattle.rules.specs.Stores.{Store, Kind, apply, blank_store, final_store, final_blocks, final_sectors, format}
 use Rattle.rules.proofs.Terms.{IsBlock, IsInside}
 use Rattle.rules.proofs.Basics.Notation.{both_true}
 use Rattle.rules.proofs.Basics.Lists.{sets-all}

@@ -5,7 +5,7 @@ use mathlib.Core.List.{List}
 use Prim.Native.Nat.{ℕ}
 use Rattle.rules.specs.Notation.{Each}
 use Rattle.rules.specs.Calls.{answer, answer_numbers, format_due, leaves}
-use Rattle.rules.specs.Demands.{Call, Typed, AreBytes, Model, empty_model, Run, step, run, IsStore, Mounts}
+use Rattle.rules.specs.Demands.{Call, Typed, AreBytes, empty_model, Run, step, run, IsStore, Mounts}
 use Rattle.rules.proofs.Crash.Invariant.{Invariant, kept-by-call}
 use Rattle.rules.proofs.Crash.Demand3.{kept-by-format, kept-by-run, invariant-holds}
 

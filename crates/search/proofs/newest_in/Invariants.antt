@@ -2,7 +2,7 @@
 -- Assumes nothing.
 use mathlib.Core.Path.{◌≡◌}
 use mathlib.Core.List.{List}
-use Prim.Native.Nat.{ℕ, ◌-◌, ◌≤◌}
+use Prim.Native.Nat.{ℕ, ◌≤◌}
 use Rattle.rules.specs.Ground.{sector_of}
 use Rattle.rules.specs.Reading.{Entry, view_of}
 use Rattle.layout.specs.declared.Geometry.{Geometry}

@@ -1,7 +1,7 @@
 -- `sector::class_of`: each way out knows the header, and whether there is a done.
 -- Assumes nothing.
 use mathlib.Core.Path.{◌≡◌, sym, ap, ◌∙◌}
-use mathlib.Core.Bool.{true, false}
+use mathlib.Core.Bool.{true}
 use Prim.Native.Nat.{ℕ}
 use Rattle.rules.specs.Ground.{sector_of}
 use Rattle.rules.specs.Reading.{View, view_of, entries_of}

@@ -1,7 +1,6 @@
 -- `sector::cycle_at`: what is looked at is block B-1.
 -- Assumes nothing.
 use mathlib.Core.Path.{ap, ◌∙◌}
-use Prim.Native.Nat.{◌-◌}
 use native.Mathlib.Omega.{arith}
 use Rattle.rules.specs.Ground.{block_at}
 use Rattle.rules.specs.Entry.{cycle_of}

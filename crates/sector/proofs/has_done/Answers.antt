@@ -3,7 +3,6 @@
 -- which antt computes.
 -- Assumes nothing.
 use mathlib.Core.Path.{◌≡◌, refl, sym, ap, ◌∙◌}
-use mathlib.Core.Bool.{false}
 use mathlib.Core.List.{[]}
 use Prim.Native.Nat.{ℕ}
 use native.Mathlib.Omega.{arith}
@@ -16,7 +15,6 @@ use Rattle.rules.specs.Look.{start, after, look}
 use Rattle.crc.proofs.Table.{is_right, right}
 use Rattle.layout.specs.Geometry.{blocks_of}
 use Rattle.layout.specs.Numbers.{block_no}
-use Rattle.entry.specs.declared.Verdict.{Verdict}
 use Rattle.entry.specs.Answer.{scan_of, verdict_as}
 use Rattle.entry.proofs.Laws.{no-entry}
 use Rattle.sector.proofs.Answers.{BlockRead, block_read, is-entry}

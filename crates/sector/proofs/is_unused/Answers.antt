@@ -12,7 +12,6 @@ use Rattle.rules.specs.Look.{look, start, is_entry}
 use Rattle.rules.specs.Reading.{view_of}
 use Rattle.layout.specs.Geometry.{blocks_of}
 use Rattle.layout.specs.Numbers.{block_no}
-use Rattle.entry.specs.declared.Verdict.{Verdict}
 use Rattle.entry.specs.Answer.{verdict_as}
 use Rattle.entry.proofs.Laws.{no-entry}
 use Rattle.sector.proofs.Answers.{BlockRead, block_read, is-entry}

@@ -15,7 +15,6 @@ use Rattle.rules.specs.Look.{after, look}
 use Rattle.crc.proofs.Table.{is_right, right}
 use Rattle.layout.specs.Geometry.{blocks_of}
 use Rattle.layout.specs.Numbers.{block_no}
-use Rattle.entry.specs.declared.Verdict.{Verdict}
 use Rattle.entry.specs.Answer.{scan_of, verdict_as}
 use Rattle.entry.proofs.Laws.{no-entry}
 use Rattle.sector.proofs.Answers.{BlockRead, block_read, is-entry}

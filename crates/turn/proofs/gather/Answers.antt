@@ -78,5 +78,8 @@ copy_live-requires c =
 pub returns : goal.returns
 returns c =
     let u : ℕ = sector_no c.args.active.sector in
-    let bytes : List ℕ = c.args.image.now in record { did = subst (λ (es : List Entry). Did c.args.g bytes (append_all (blocks_of c.args.g) u es (blocks_in c.args.g bytes)) c.args.budget c.copy_live.new.image c.copy_live.result.budget)
-          (sym (survivors-are c.args.g bytes u c.requires.backs c.requires.carries.inside)) c.copy_live.ensures.did; gathered = c.copy_live.ensures.gathered }
+    let bytes : List ℕ = c.args.image.now in record {
+      did = subst (λ (es : List Entry). Did c.args.g bytes (append_all (blocks_of c.args.g) u es (blocks_in c.args.g bytes)) c.args.budget c.copy_live.new.image c.copy_live.result.budget)
+          (sym (survivors-are c.args.g bytes u c.requires.backs c.requires.carries.inside)) c.copy_live.ensures.did;
+      gathered = c.copy_live.ensures.gathered;
+    }

@@ -6,7 +6,6 @@ use Rattle.rules.specs.Look as rule
 use Rattle.rules.specs.Look.{look}
 use Rattle.layout.specs.Numbers.{sector_no, block_no}
 use Rattle.layout.specs.Geometry.{blocks_of, sectors_of}
-use Rattle.entry.specs.declared.Verdict.{Verdict}
 use Rattle.entry.specs.Answer.{scan_of, verdict_as}
 use Rattle.entry.proofs.Laws.{no-entry, an-entry}
 use Rattle.budget.proofs.blocks.is_entry.Goals as goal

@@ -1,7 +1,6 @@
 -- `look::is_erased`. The loop's invariant: the bytes from i on are erased exactly where all are.
 -- Assumes nothing.
 use mathlib.Core.Path.{sym, ◌∙◌}
-use Prim.Native.Nat.{◌-◌}
 use native.Mathlib.Omega.{arith}
 use borrow.Author.Tests.{eq-eqb, ne_eqb}
 use Rattle.rules.proofs.Basics.Notation.{erased-next, erased-end}

@@ -2,7 +2,7 @@
 -- Assumes nothing.
 use mathlib.Core.Path.{sym, ap, ◌∙◌}
 use mathlib.Core.List.{List, ◌++◌, append-nil}
-use Prim.Native.Nat.{◌-◌, ◌<◌, ◌≤◌}
+use Prim.Native.Nat.{◌<◌, ◌≤◌}
 use native.Mathlib.Omega.{arith}
 use lib.ListN.{length}
 use lib.Seq.{take_all}
@@ -50,8 +50,8 @@ loop-n-preserved c =
           newer-next (entries_at c.args.g c.args.image.now c.args.s) c.requires.count_value later (entries_at c.args.g c.args.image.now c.args.t) c.loop-n.n
           (inside (goal.at.loop-n-preserved c).In-loop-n) (c.loop-n.invariant.1 later same)
           (elim c.match-hit.branch [
-            in-At w ↦ ap marks_of w.renewed-is ∙ w.add-renewed.ensures ∙ mark-found _ _ (told ∙ w.in-At.is)
-          | in_default w ↦ ap marks_of w.renewed-is ∙ mark-missed _ _ (told ∙ w.in_default.is)
+            | in-At w ↦ ap marks_of w.renewed-is ∙ w.add-renewed.ensures ∙ mark-found _ _ (told ∙ w.in-At.is)
+            | in_default w ↦ ap marks_of w.renewed-is ∙ mark-missed _ _ (told ∙ w.in_default.is)
           ])),
     )
 

@@ -2,7 +2,7 @@
 -- Assumes nothing.
 use mathlib.Core.Path.{◌≡◌, sym, ap, ◌∙◌}
 use mathlib.Core.List.{List, []}
-use Prim.Native.Nat.{◌-◌, ◌<◌, ◌≤◌}
+use Prim.Native.Nat.{◌<◌, ◌≤◌}
 use native.Mathlib.Omega.{arith}
 use lib.ListN.{length}
 use lib.Seq.{take_all}
@@ -55,8 +55,8 @@ loop-n-preserved c =
       c.add.ensures,
       within-next (entries_at c.args.g c.args.image.now c.args.s) c.loop-n.n (inside (goal.at.loop-n-preserved c).In-loop-n) (omega (arith, few (goal.at.loop-n-preserved c).In-loop-n)) c.loop-n.invariant.2
           (elim c.match-hit.branch [
-            in-At w ↦ ap marks_of w.renewed-is ∙ w.add-renewed.ensures ∙ mark-found _ _ (told ∙ w.in-At.is)
-          | in_default w ↦ ap marks_of w.renewed-is ∙ mark-missed _ _ (told ∙ w.in_default.is)
+            | in-At w ↦ ap marks_of w.renewed-is ∙ w.add-renewed.ensures ∙ mark-found _ _ (told ∙ w.in-At.is)
+            | in_default w ↦ ap marks_of w.renewed-is ∙ mark-missed _ _ (told ∙ w.in_default.is)
           ]),
     )
 

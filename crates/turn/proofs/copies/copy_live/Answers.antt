@@ -3,7 +3,7 @@
 use mathlib.Core.Path.{◌≡◌, sym, ap, subst, ◌∙◌}
 use mathlib.Core.Bool.{Bool, true, false, false≢true}
 use mathlib.Core.List.{List}
-use Prim.Native.Nat.{ℕ, ◌+◌, ◌-◌, ◌≤◌, ◌<◌}
+use Prim.Native.Nat.{ℕ, ◌+◌, ◌≤◌, ◌<◌}
 use native.Mathlib.Omega.{arith}
 use lib.ListN.{length, get_or}
 use Rattle.rules.specs.Look.{is_within}
@@ -114,8 +114,11 @@ shape_of-image-then-left c =
 
 pub returns-then-left : goal.returns-then-left
 returns-then-left c =
-    record { did = copying-cut c.args.g (next (sectors_of c.args.g) (sector_no c.args.active.sector)) (sector_no c.args.active.sector) c.args.image.now c.args.budget c.loop-n.invariant.1 (here (goal.at.returns-then-left c).In-loop-n) (oldest-inside (goal.at.returns-then-left c).Start) c.requires.carries.inside (apart (goal.at.returns-then-left c).Start)
-          (flag (goal.at.returns-then-left c).After-has ∙ c.if-has.true) (copied (goal.at.returns-then-left c).After-has c.append_copy-copied.new.image c.append_copy-copied.ensures.did) c.if-left.true; gathered = (λ whole. absurd (false≢true (sym whole ∙ c.if-left.true))) }
+    record {
+      did = copying-cut c.args.g (next (sectors_of c.args.g) (sector_no c.args.active.sector)) (sector_no c.args.active.sector) c.args.image.now c.args.budget c.loop-n.invariant.1 (here (goal.at.returns-then-left c).In-loop-n) (oldest-inside (goal.at.returns-then-left c).Start) c.requires.carries.inside (apart (goal.at.returns-then-left c).Start)
+          (flag (goal.at.returns-then-left c).After-has ∙ c.if-has.true) (copied (goal.at.returns-then-left c).After-has c.append_copy-copied.new.image c.append_copy-copied.ensures.did) c.if-left.true;
+      gathered = (λ whole. absurd (false≢true (sym whole ∙ c.if-left.true)));
+    }
 
 pub overflow_add-n : goal.overflow_add-n
 overflow_add-n c = omega (arith, marked (goal.at.overflow_add-n c).In-loop-n)
@@ -124,18 +127,17 @@ pub loop-n-smaller : goal.loop-n-smaller
 loop-n-smaller c = omega (arith, c.loop-n-test.true)
 
 pub loop-n-preserved : goal.loop-n-preserved
-loop-n-preserved c =
-    (
-      omega (arith, c.loop-n-test.true),
-      elim c.if-has.branch [
-        then-has+else-left w ↦
-          rw (w.image-is, w.left-is, w.filled-is)
-          (more (goal.at.loop-n-preserved c).After-has w.append_copy-copied.new.image w.if-has.true w.append_copy-copied.ensures.did w.append_copy-copied.ensures.active w.if-left.false)
-      | else-has w ↦
-          rw (w.image-is, w.left-is, w.filled-is)
-          (copying-passed c.args.g (next (sectors_of c.args.g) (sector_no c.args.active.sector)) (sector_no c.args.active.sector) c.args.image.now c.args.budget c.loop-n.invariant.1 (here (goal.at.loop-n-preserved c).In-loop-n) (flag (goal.at.loop-n-preserved c).After-has ∙ w.if-has.false))
-      ],
-    )
+loop-n-preserved c = (
+  omega (arith, c.loop-n-test.true),
+  elim c.if-has.branch [
+    | then-has+else-left w ↦
+        rw (w.image-is, w.left-is, w.filled-is)
+        (more (goal.at.loop-n-preserved c).After-has w.append_copy-copied.new.image w.if-has.true w.append_copy-copied.ensures.did w.append_copy-copied.ensures.active w.if-left.false)
+    | else-has w ↦
+        rw (w.image-is, w.left-is, w.filled-is)
+        (copying-passed c.args.g (next (sectors_of c.args.g) (sector_no c.args.active.sector)) (sector_no c.args.active.sector) c.args.image.now c.args.budget c.loop-n.invariant.1 (here (goal.at.loop-n-preserved c).In-loop-n) (flag (goal.at.loop-n-preserved c).After-has ∙ w.if-has.false))
+  ],
+)
 
 pub shape_of-image : goal.shape_of-image
 shape_of-image c = c.loop-n.invariant.1.backs.sized ∙ sym c.requires.backs.sized
