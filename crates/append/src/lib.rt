@@ -30,7 +30,7 @@ pub struct Appended {
 fn with_entry(active: Active, head: Head) -> Active
     requires entries_bound { active.entries ≤ 4096 }
     requires small { Small active.scan }
-    requires head_bound { length_of head < 2 ^ 16 }
+    requires length_fits { length_of head < 2 ^ 16 }
     ensures { result ≡ with_entry active (head_of head) }
 {
     let sector = active.sector;
@@ -125,7 +125,7 @@ fn put_data(image: &mut [u8], g: Geometry, active: Active, value: &[u8], budget:
     requires backs { Backs g image.old }
     requires sector_bound { sector_no active.sector < sectors_of g }
     requires consistent { Consistent budget }
-    requires value_bound { active.scan.data_end + rule.data_blocks (length value.now) ≤ blocks_of g }
+    requires room { active.scan.data_end + rule.data_blocks (length value.now) ≤ blocks_of g }
     ensures { Did g image.old (stores.data_stores (sector_no active.sector) active.scan.data_end (value_blocks value.now)) budget image.new result }
 {
     let s = active.sector;
@@ -154,7 +154,7 @@ fn put_data(image: &mut [u8], g: Geometry, active: Active, value: &[u8], budget:
 
 // The entry of a value, whose data, if it has some, begins at block `data_end`.
 fn value_bytes(cycle: u8, id: u32, value: &[u8], data_end: usize) -> [u8; Geometry::BLOCK_SIZE]
-    requires value_len_bound { length value.now < 2 ^ 16 }
+    requires length_fits { length value.now < 2 ^ 16 }
     requires data_end_bound { data_end ≤ 4096 }
     ensures { result ≡ stores.entry_block cycle data_end (stores.value_entry id value.now) }
 {
@@ -168,7 +168,7 @@ fn value_bytes(cycle: u8, id: u32, value: &[u8], data_end: usize) -> [u8; Geomet
 
 // The block of an entry of this head, for the sector that is carried.
 fn entry_bytes(active: Active, head: Head, value: &[u8]) -> [u8; Geometry::BLOCK_SIZE]
-    requires value_len_bound { length value.now < 2 ^ 16 }
+    requires length_fits { length value.now < 2 ^ 16 }
     requires data_end_bound { active.scan.data_end ≤ 4096 }
     ensures { result ≡ stores.entry_block active.cycle active.scan.data_end (entry_for head value.now) }
 {
@@ -191,8 +191,8 @@ pub fn append(
     requires backs { Backs g image.old }
     requires carries { Carries g image.old active }
     requires consistent { Consistent budget }
-    requires head_value { rule.is_within (blocks_of g) (scan_of active.scan) (head_of head) ≡ true }
-    requires head_value_2 { length_of head ≡ length value.now }
+    requires fits { rule.is_within (blocks_of g) (scan_of active.scan) (head_of head) ≡ true }
+    requires sized { length_of head ≡ length value.now }
     ensures did { Did g image.old (stores.append (blocks_of g) (sector_no active.sector) (entry_for head value.now) (image_of (blocks_of g) (sectors_of g) image.old)) budget image.new result.budget }
     ensures active { result.budget.cut ≡ false → result.active ≡ with_entry active (head_of head) }
 {

@@ -19,7 +19,7 @@ use search::{Found, value};
 pub fn read(image: &[u8], g: Geometry, w: Sector, id: u32, buffer: &mut [u8]) -> Reply
     requires backs { Backs g image.now }
     requires w_bound { sector_no w < sectors_of g }
-    requires fact { id ≡ reserved_id → ⊥ }
+    requires legal_id { id ≡ reserved_id → ⊥ }
     ensures answer { result ≡ reply_as (rule.read_entry (length buffer.old) (lookup id (history (at_rest (sector_no w)) (views_in g image.now)))) }
     ensures buffer { buffer.new ≡ rule.buffer_after (rule.read_entry (length buffer.old) (lookup id (history (at_rest (sector_no w)) (views_in g image.now)))) buffer.old }
 {
@@ -41,8 +41,8 @@ pub fn read(image: &[u8], g: Geometry, w: Sector, id: u32, buffer: &mut [u8]) ->
 // The deletion of an ID that has a value.
 pub fn delete(image: &mut [u8], g: Geometry, w: Sector, id: u32, allowance: u32) -> Outcome
     requires backs { Backs g image.old }
-    requires image_value { state_of (views_in g image.old) ≡ some (at_rest (sector_no w)) }
-    requires fact { id ≡ reserved_id → ⊥ }
+    requires rest { state_of (views_in g image.old) ≡ some (at_rest (sector_no w)) }
+    requires legal_id { id ≡ reserved_id → ⊥ }
     ensures { Leaves (blocks_of g * block_size) (rule.delete_on (blocks_of g) (sectors_of g) (image_of (blocks_of g) (sectors_of g) image.old) id) allowance image.old image.new result }
 {
     let Found::Value(_, _, _) = search::find(image, g, w, id) else {

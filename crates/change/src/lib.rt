@@ -81,7 +81,7 @@ fn make_turning(
     requires backs { Backs g image.old }
     requires opened { Opened g image.old active }
     requires changes { Changes (blocks_of g) head value.now }
-    requires head_value { rule.is_within (blocks_of g) (scan_of active.scan) (head_of head) ≡ false }
+    requires full { rule.is_within (blocks_of g) (scan_of active.scan) (head_of head) ≡ false }
     ensures { Leaves (blocks_of g * block_size) (change_on (blocks_of g) (sectors_of g) (sector_no active.sector) (limit_of (blocks_of g) (head_of head)) (entry_for head value.now) (image_of (blocks_of g) (sectors_of g) image.old)) allowance image.old image.new result }
 {
     let counts = counts::entry_counts(image, g);
@@ -109,7 +109,7 @@ pub fn make(
     allowance: u32,
 ) -> Outcome
     requires backs { Backs g image.old }
-    requires image_value { state_of (views_in g image.old) ≡ some (at_rest (sector_no w)) }
+    requires rest { state_of (views_in g image.old) ≡ some (at_rest (sector_no w)) }
     requires changes { Changes (blocks_of g) head value.now }
     ensures { Leaves (blocks_of g * block_size) (change_on (blocks_of g) (sectors_of g) (sector_no w) (limit_of (blocks_of g) (head_of head)) (entry_for head value.now) (image_of (blocks_of g) (sectors_of g) image.old)) allowance image.old image.new result }
 {

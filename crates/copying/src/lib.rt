@@ -89,10 +89,10 @@ fn copy_data(
     requires backs { Backs g image.old }
     requires from_bound { sector_no «from» < sectors_of g }
     requires sector_bound { sector_no active.sector < sectors_of g }
-    requires fact { sector_no «from» ≡ sector_no active.sector → ⊥ }
+    requires apart { sector_no «from» ≡ sector_no active.sector → ⊥ }
     requires consistent { Consistent budget }
-    requires length_bound { source.first + rule.data_blocks source.length ≤ blocks_of g }
-    requires length_bound_2 { active.scan.data_end + rule.data_blocks source.length ≤ blocks_of g }
+    requires source_inside { source.first + rule.data_blocks source.length ≤ blocks_of g }
+    requires target_inside { active.scan.data_end + rule.data_blocks source.length ≤ blocks_of g }
     ensures { Did g image.old (stores.data_stores (sector_no active.sector) active.scan.data_end (take (rule.data_blocks source.length) (drop source.first (get_or (image_of (blocks_of g) (sectors_of g) image.old) (sector_no «from») [])))) budget image.new result }
 {
     let to = active.sector;
@@ -131,12 +131,12 @@ pub fn append_copy(
 ) -> Appended
     requires backs { Backs g image.old }
     requires from_bound { sector_no «from» < sectors_of g }
-    requires fact { sector_no «from» ≡ sector_no active.sector → ⊥ }
+    requires apart { sector_no «from» ≡ sector_no active.sector → ⊥ }
     requires consistent { Consistent budget }
     requires n_in_bounds { n < length (view_at (views_in g image.old) (sector_no «from»)).entries }
-    requires n_value { is_value (entry_in g image.old (sector_no «from») n).head ≡ true }
+    requires valued { is_value (entry_in g image.old (sector_no «from») n).head ≡ true }
     requires carries { Carries g image.old active }
-    requires n_value_2 { rule.is_within (blocks_of g) (scan_of active.scan) (entry_in g image.old (sector_no «from») n).head ≡ true }
+    requires fits { rule.is_within (blocks_of g) (scan_of active.scan) (entry_in g image.old (sector_no «from») n).head ≡ true }
     ensures did { Did g image.old (stores.append (blocks_of g) (sector_no active.sector) (entry_in g image.old (sector_no «from») n) (image_of (blocks_of g) (sectors_of g) image.old)) budget image.new result.budget }
     ensures active { result.budget.cut ≡ false → result.active ≡ with_entry active (entry_in g image.old (sector_no «from») n).head }
 {

@@ -153,7 +153,7 @@ impl Scan {
     // After one more entry.
     pub fn after(self, head: Head) -> Scan
         requires small { Small self }
-        requires head_bound { length_of head < 2 ^ 16 }
+        requires length_fits { length_of head < 2 ^ 16 }
         ensures { result ≡ scan_as (rule.after (scan_of self) (head_of head)) }
     {
         match head {
@@ -182,7 +182,7 @@ impl Scan {
     pub fn admits(self, g: Geometry, head: Head) -> bool
         requires sound { Sound g }
         requires small { Small self }
-        requires head_bound { length_of head < 2 ^ 16 }
+        requires length_fits { length_of head < 2 ^ 16 }
         ensures { result ≡ rule.is_within (blocks_of g) (scan_of self) (head_of head) }
     {
         match head {
@@ -197,8 +197,8 @@ impl Scan {
 fn head_of(block: &[u8], data_end: usize) -> Form
     requires block_len { length block.now ≡ block_size }
     requires data_end_bound { data_end ≤ 4096 }
-    ensures value { result ≡ form_as (rule.head_of data_end block.now) }
-    ensures result_bound { form_length result < 2 ^ 16 }
+    ensures form { result ≡ form_as (rule.head_of data_end block.now) }
+    ensures length_fits { form_length result < 2 ^ 16 }
 {
     let id = layout::le32(block, ID_AT);
     let length = layout::le16(block, LENGTH_AT) as usize;

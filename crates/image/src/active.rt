@@ -38,7 +38,7 @@ pub fn read(image: &[u8], g: Geometry, s: Sector) -> Active
 pub fn unused(image: &[u8], g: Geometry, s: Sector) -> Active
     requires backs { Backs g image.now }
     requires s_bound { sector_no s < sectors_of g }
-    requires s_value { (view_at (views_in g image.now) (sector_no s)).entries ≡ [] }
+    requires empty { (view_at (views_in g image.now) (sector_no s)).entries ≡ [] }
     ensures { result ≡ active_as (sector_no s) (view_at (views_in g image.now) (sector_no s)) }
 {
     Active {

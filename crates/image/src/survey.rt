@@ -68,7 +68,7 @@ fn state_with(image: &[u8], g: Geometry, w: Sector, unfinished: Mask) -> Status
 // The state by the classes: "exactly one bit, and which, decides".
 fn decide(image: &[u8], g: Geometry, working: Mask, unfinished: Mask) -> Status
     requires backs { Backs g image.now }
-    requires by_index { (w : ℕ) → sectors_in working ≡ w ∷ [] → w < sectors_of g }
+    requires working_inside { (w : ℕ) → sectors_in working ≡ w ∷ [] → w < sectors_of g }
     ensures { result ≡ status_as (state_by (views_in g image.now) (sectors_in working) (sectors_in unfinished)) }
 {
     if working.is_empty() {

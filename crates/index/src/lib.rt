@@ -40,7 +40,7 @@ pub fn find(
     requires backs { Backs g image.now }
     requires s_bound { sector_no s < sectors_of g }
     requires indexes { Indexes (view_at (views_in g image.now) (sector_no s)).entries count heads.now links.now }
-    requires fact { id ≡ reserved_id → ⊥ }
+    requires legal_id { id ≡ reserved_id → ⊥ }
     ensures { result ≡ hit_as (last_named_below id count (view_at (views_in g image.now) (sector_no s)).entries) }
 {
     let at = bucket(id);

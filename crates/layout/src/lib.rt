@@ -201,7 +201,7 @@ pub fn block_at(image: &[u8], g: Geometry, s: Sector, b: Block) -> &[u8]
 fn byte(block: &[u8], at: usize) -> u32
     requires { at < length block.now }
     ensures value { result ≡ get_or block.now at 0 }
-    ensures upper_bound { result < 256 }
+    ensures is_byte { result < 256 }
 {
     block[at] as u32
 }

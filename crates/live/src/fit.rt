@@ -32,7 +32,7 @@ pub fn turns_needed(
     requires backs { Backs g image.now }
     requires counts { Counts (views_in g image.now) counts }
     requires w_bound { sector_no w < sectors_of g }
-    requires need_le_max_sector_size { need ≤ max_sector_size }
+    requires need_bound { need ≤ max_sector_size }
     requires limit_bound { limit < needs_of (view_at (views_in g image.now) (sector_no w)).entries + need }
     ensures { result ≡ fit_as (least_turns need limit (sector_no w) (views_in g image.now)) }
 {

@@ -62,7 +62,7 @@ pub fn marks(
     requires counts { Counts (views_in g image.now) counts }
     requires w_bound { sector_no w < sectors_of g }
     requires s_bound { sector_no s < sectors_of g }
-    requires fact { sector_no s ≡ next (sectors_of g) (sector_no w) → ⊥ }
+    requires not_spare { sector_no s ≡ next (sectors_of g) (sector_no w) → ⊥ }
     ensures { marks_of result ≡ padded max_marks (live_flags_in (next (sectors_of g) (sector_no w)) (sector_no s) (views_in g image.now)) }
 {
     let renewed = renewed::marks(image, g, counts, w, s);
@@ -91,7 +91,7 @@ pub fn needs(
     requires counts { Counts (views_in g image.now) counts }
     requires w_bound { sector_no w < sectors_of g }
     requires s_bound { sector_no s < sectors_of g }
-    requires fact { sector_no s ≡ next (sectors_of g) (sector_no w) → ⊥ }
+    requires not_spare { sector_no s ≡ next (sectors_of g) (sector_no w) → ⊥ }
     ensures { result ≡ needs_of (live_in (next (sectors_of g) (sector_no w)) (sector_no s) (views_in g image.now)) }
 {
     let live = marks(image, g, counts, w, s);

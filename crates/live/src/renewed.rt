@@ -56,7 +56,7 @@ fn renewed_within(
 ) -> Marks
     requires backs { Backs g image.now }
     requires s_bound { sector_no s < sectors_of g }
-    requires count_value { count ≡ length (view_at (views_in g image.now) (sector_no s)).entries }
+    requires counted { count ≡ length (view_at (views_in g image.now) (sector_no s)).entries }
     requires indexes { Indexes (view_at (views_in g image.now) (sector_no s)).entries 0 heads.old links.old }
     ensures indexed { Indexes (view_at (views_in g image.now) (sector_no s)).entries count heads.new links.new }
     ensures marked { marks_of result ≡ padded max_marks (renewed_flags (view_at (views_in g image.now) (sector_no s)).entries []) }
@@ -89,10 +89,10 @@ fn renewed_by_sector(
 ) -> Marks
     requires backs { Backs g image.now }
     requires s_bound { sector_no s < sectors_of g }
-    requires count_value { count ≡ length (view_at (views_in g image.now) (sector_no s)).entries }
+    requires counted { count ≡ length (view_at (views_in g image.now) (sector_no s)).entries }
     requires indexes { Indexes (view_at (views_in g image.now) (sector_no s)).entries count heads.now links.now }
     requires t_bound { sector_no t < sectors_of g }
-    requires entries_value { entries ≡ length (view_at (views_in g image.now) (sector_no t)).entries }
+    requires t_counted { entries ≡ length (view_at (views_in g image.now) (sector_no t)).entries }
     ensures { (later : List Entry) → marks_of older ≡ padded max_marks (renewed_flags (view_at (views_in g image.now) (sector_no s)).entries later) → marks_of result ≡ padded max_marks (renewed_flags (view_at (views_in g image.now) (sector_no s)).entries (later ++ (view_at (views_in g image.now) (sector_no t)).entries)) }
 {
     let mut renewed = older;
@@ -123,10 +123,10 @@ fn renewed_by_newer(
     requires counts { Counts (views_in g image.now) counts }
     requires w_bound { sector_no w < sectors_of g }
     requires s_bound { sector_no s < sectors_of g }
-    requires fact { sector_no s ≡ next (sectors_of g) (sector_no w) → ⊥ }
-    requires count_value { count ≡ length (view_at (views_in g image.now) (sector_no s)).entries }
+    requires not_spare { sector_no s ≡ next (sectors_of g) (sector_no w) → ⊥ }
+    requires counted { count ≡ length (view_at (views_in g image.now) (sector_no s)).entries }
     requires indexes { Indexes (view_at (views_in g image.now) (sector_no s)).entries count heads.now links.now }
-    requires within_value { marks_of within ≡ padded max_marks (renewed_flags (view_at (views_in g image.now) (sector_no s)).entries []) }
+    requires within_marked { marks_of within ≡ padded max_marks (renewed_flags (view_at (views_in g image.now) (sector_no s)).entries []) }
     ensures { marks_of result ≡ padded max_marks (renewed_flags_in (next (sectors_of g) (sector_no w)) (sector_no s) (views_in g image.now)) }
 {
     let spare = ring::next_sector(g, w).number();
@@ -153,7 +153,7 @@ pub fn marks(
     requires counts { Counts (views_in g image.now) counts }
     requires w_bound { sector_no w < sectors_of g }
     requires s_bound { sector_no s < sectors_of g }
-    requires fact { sector_no s ≡ next (sectors_of g) (sector_no w) → ⊥ }
+    requires not_spare { sector_no s ≡ next (sectors_of g) (sector_no w) → ⊥ }
     ensures { marks_of result ≡ padded max_marks (renewed_flags_in (next (sectors_of g) (sector_no w)) (sector_no s) (views_in g image.now)) }
 {
     let number = s.number();

@@ -48,8 +48,8 @@ pub enum Found {
 fn newest_in(sector: &[u8], g: Geometry, entries: usize, id: u32) -> Hit
     requires sound { Sound g }
     requires sector_len { length sector.now ≡ blocks_of g * block_size }
-    requires entries_value { entries ≡ length (view_of (blocks_of g) (sector_of (blocks_of g) sector.now)).entries }
-    requires fact { id ≡ reserved_id → ⊥ }
+    requires counted { entries ≡ length (view_of (blocks_of g) (sector_of (blocks_of g) sector.now)).entries }
+    requires legal_id { id ≡ reserved_id → ⊥ }
     ensures { result ≡ hit_as (last_named id (view_of (blocks_of g) (sector_of (blocks_of g) sector.now)).entries) }
 {
     let mut n = entries;
@@ -67,7 +67,7 @@ fn newest_in(sector: &[u8], g: Geometry, entries: usize, id: u32) -> Hit
 fn newest_at(image: &[u8], g: Geometry, s: Sector, id: u32) -> Hit
     requires backs { Backs g image.now }
     requires s_bound { sector_no s < sectors_of g }
-    requires fact { id ≡ reserved_id → ⊥ }
+    requires legal_id { id ≡ reserved_id → ⊥ }
     ensures { result ≡ hit_as (last_named id (view_at (views_in g image.now) (sector_no s)).entries) }
 {
     let cycle = sector::cycle_at(image, g, s);
@@ -80,7 +80,7 @@ fn newest_at(image: &[u8], g: Geometry, s: Sector, id: u32) -> Hit
 fn newest_entry(image: &[u8], g: Geometry, w: Sector, id: u32) -> Newest
     requires backs { Backs g image.now }
     requires w_bound { sector_no w < sectors_of g }
-    requires fact { id ≡ reserved_id → ⊥ }
+    requires legal_id { id ≡ reserved_id → ⊥ }
     ensures { result ≡ newest_as (seek id (sectors_of g) (next (sectors_of g) (sector_no w)) (sectors_of g - 1) (views_in g image.now)) }
 {
     let mut left = g.sectors() - 1;
@@ -125,7 +125,7 @@ fn value_at(image: &[u8], g: Geometry, s: Sector, n: usize) -> Found
 pub fn find(image: &[u8], g: Geometry, w: Sector, id: u32) -> Found
     requires backs { Backs g image.now }
     requires w_bound { sector_no w < sectors_of g }
-    requires fact { id ≡ reserved_id → ⊥ }
+    requires legal_id { id ≡ reserved_id → ⊥ }
     ensures { result ≡ found_as (blocks_of g) (image_of (blocks_of g) (sectors_of g) image.now) (seek id (sectors_of g) (next (sectors_of g) (sector_no w)) (sectors_of g - 1) (views_in g image.now)) }
 {
     let Newest::Entry(s, n) = newest_entry(image, g, w, id) else {

@@ -33,9 +33,9 @@ pub fn copy_live(
     requires backs { Backs g image.old }
     requires carries { Carries g image.old active }
     requires consistent { Consistent budget }
-    requires count_value { count ≡ length (view_at (views_in g image.old) (next (sectors_of g) (sector_no active.sector))).entries }
-    requires live_value { marks_of live ≡ padded max_marks (live_flags_in (sector_no active.sector) (next (sectors_of g) (sector_no active.sector)) (views_in g image.old)) }
-    requires sector_value { (view_at (views_in g image.old) (sector_no active.sector)).entries ≡ [] }
+    requires counted { count ≡ length (view_at (views_in g image.old) (next (sectors_of g) (sector_no active.sector))).entries }
+    requires live_marked { marks_of live ≡ padded max_marks (live_flags_in (sector_no active.sector) (next (sectors_of g) (sector_no active.sector)) (views_in g image.old)) }
+    requires empty { (view_at (views_in g image.old) (sector_no active.sector)).entries ≡ [] }
     ensures did { Did g image.old (stores.append_all (blocks_of g) (sector_no active.sector) (live_in (sector_no active.sector) (next (sectors_of g) (sector_no active.sector)) (views_in g image.old)) (image_of (blocks_of g) (sectors_of g) image.old)) budget image.new result.budget }
     ensures gathered { result.budget.cut ≡ false → Gathered g (sector_no active.sector) image.old image.new result.active }
 {

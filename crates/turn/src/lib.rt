@@ -36,7 +36,7 @@ fn gather(
     requires backs { Backs g image.old }
     requires counts { Counts (views_in g image.old) counts }
     requires carries { Carries g image.old active }
-    requires sector_value { (view_at (views_in g image.old) (sector_no active.sector)).entries ≡ [] }
+    requires empty { (view_at (views_in g image.old) (sector_no active.sector)).entries ≡ [] }
     requires consistent { Consistent budget }
     ensures did { Did g image.old (stores.append_all (blocks_of g) (sector_no active.sector) (stores.survivors (blocks_of g) (sector_no active.sector) (image_of (blocks_of g) (sectors_of g) image.old)) (image_of (blocks_of g) (sectors_of g) image.old)) budget image.new result.budget }
     ensures gathered { result.budget.cut ≡ false → Gathered g (sector_no active.sector) image.old image.new result.active }
@@ -53,7 +53,7 @@ fn gather(
 fn end_turn(image: &mut [u8], g: Geometry, active: Active, budget: Budget) -> Appended
     requires backs { Backs g image.old }
     requires carries { Carries g image.old active }
-    requires done_value { rule.is_within (blocks_of g) (scan_of active.scan) rule.done ≡ true }
+    requires done_fits { rule.is_within (blocks_of g) (scan_of active.scan) rule.done ≡ true }
     requires consistent { Consistent budget }
     ensures { Turned g (sector_no active.sector) image.old ((stores.append (blocks_of g) (sector_no active.sector) stores.done_entry and_then stores.reopen (blocks_of g) (next (sectors_of g) (sector_no active.sector))) (image_of (blocks_of g) (sectors_of g) image.old)) budget image.new result }
 {
@@ -81,7 +81,7 @@ pub fn finish_turn(
     requires backs { Backs g image.old }
     requires counts { Counts (views_in g image.old) counts }
     requires carries { Carries g image.old active }
-    requires sector_value { (view_at (views_in g image.old) (sector_no active.sector)).entries ≡ [] }
+    requires empty { (view_at (views_in g image.old) (sector_no active.sector)).entries ≡ [] }
     requires consistent { Consistent budget }
     ensures { Turned g (sector_no active.sector) image.old (stores.finish_turn (blocks_of g) (sectors_of g) (sector_no active.sector) (image_of (blocks_of g) (sectors_of g) image.old)) budget image.new result }
 {
@@ -105,7 +105,7 @@ pub fn turn(
     requires backs { Backs g image.old }
     requires counts { Counts (views_in g image.old) counts }
     requires w_bound { sector_no w < sectors_of g }
-    requires w_value { (view_at (views_in g image.old) (next (sectors_of g) (sector_no w))).entries ≡ [] }
+    requires spare_empty { (view_at (views_in g image.old) (next (sectors_of g) (sector_no w))).entries ≡ [] }
     requires consistent { Consistent budget }
     ensures { Turned g (next (sectors_of g) (sector_no w)) image.old (stores.turn (blocks_of g) (sectors_of g) (sector_no w) (image_of (blocks_of g) (sectors_of g) image.old)) budget image.new result }
 {

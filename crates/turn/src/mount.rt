@@ -35,7 +35,7 @@ fn mount_turn(image: &mut [u8], g: Geometry, u: Sector, budget: Budget) -> Budge
 // The mount of an image in this state. Where it is no store, or at rest, nothing is due.
 pub fn mount(image: &mut [u8], g: Geometry, status: Status, budget: Budget) -> Budget
     requires backs { Backs g image.old }
-    requires status_value { status_of status ≡ state_of (views_in g image.old) }
+    requires surveyed { status_of status ≡ state_of (views_in g image.old) }
     requires consistent { Consistent budget }
     ensures { Did g image.old (mount_stores (blocks_of g) (sectors_of g) (state_of (views_in g image.old)) (image_of (blocks_of g) (sectors_of g) image.old)) budget image.new result }
 {

@@ -32,23 +32,23 @@ due k = entry_for k.args.head k.args.value.now
 fitting : (k : Start) → Fits (blocks_of k.args.g) k.args.active k.args.head
 fitting k =
     fits k.args.g k.args.image.now (sector_no k.args.active.sector) k.requires.backs.sound k.requires.carries.inside k.requires.carries.told
-    k.args.head k.requires.head_value
+    k.args.head k.requires.fits
 
 inside : (k : Start) → k.args.active.scan.data_end + data_blocks (length k.args.value.now) ≤ blocks_of k.args.g
 inside k =
     let ends = room k.args.g k.args.image.now (sector_no k.args.active.sector) k.requires.backs.sound k.requires.carries.inside k.requires.carries.told
-    k.args.head k.requires.head_value in
-    omega (arith, ends, data-of k.args.head k.args.value.now k.requires.head_value_2)
+    k.args.head k.requires.fits in
+    omega (arith, ends, data-of k.args.head k.args.value.now k.requires.sized)
 
 -- the data that was laid is the entry's
 laid : (c : After-put_data-laid) → Did c.args.g c.args.image.now (data_stores (sector_no c.args.active.sector) c.args.active.scan.data_end (due c.before.before.before.before.before).blocks) c.args.budget c.put_data-laid.new.image c.put_data-laid.result
 laid c =
     subst (λ (bs : List Block). Did c.args.g c.args.image.now (data_stores (sector_no c.args.active.sector) c.args.active.scan.data_end bs) c.args.budget c.put_data-laid.new.image c.put_data-laid.result)
-    (entry-data c.args.head c.args.value.now c.requires.head_value_2) c.put_data-laid.ensures
+    (entry-data c.args.head c.args.value.now c.requires.sized) c.put_data-laid.ensures
 
 pub put_data-laid-requires : goal.put_data-laid-requires
 put_data-laid-requires c =
-    record { backs = c.requires.backs; sector_bound = c.requires.carries.inside; consistent = c.requires.consistent; value_bound = inside (goal.at.put_data-laid-requires c).Start }
+    record { backs = c.requires.backs; sector_bound = c.requires.carries.inside; consistent = c.requires.consistent; room = inside (goal.at.put_data-laid-requires c).Start }
 
 pub returns-then-laid : goal.returns-then-laid
 returns-then-laid c = record {
@@ -59,7 +59,7 @@ returns-then-laid c = record {
 
 pub entry_bytes-bytes-requires : goal.entry_bytes-bytes-requires
 entry_bytes-bytes-requires c =
-    record { value_len_bound = omega (arith, (fitting (goal.at.entry_bytes-bytes-requires c).Start).short, c.requires.head_value_2); data_end_bound = (fitting (goal.at.entry_bytes-bytes-requires c).Start).before.data_end }
+    record { length_fits = omega (arith, (fitting (goal.at.entry_bytes-bytes-requires c).Start).short, c.requires.sized); data_end_bound = (fitting (goal.at.entry_bytes-bytes-requires c).Start).before.data_end }
 
 pub put_entry-requires : goal.put_entry-requires
 put_entry-requires c =
@@ -68,9 +68,9 @@ put_entry-requires c =
 pub returns : goal.returns
 returns c =
     let v = c.args.value.now in
-    let same : (due (goal.at.returns c).Start).head ≡ head_of c.args.head = entry-head c.args.head v c.requires.head_value_2 in
+    let same : (due (goal.at.returns c).Start).head ≡ head_of c.args.head = entry-head c.args.head v c.requires.sized in
     let lie =
-    subst (λ (bs : List Block). Each (Lies (blocks_of c.args.g) (sectors_of c.args.g)) (data_stores (sector_no c.args.active.sector) c.args.active.scan.data_end bs)) (entry-data c.args.head v c.requires.head_value_2)
+    subst (λ (bs : List Block). Each (Lies (blocks_of c.args.g) (sectors_of c.args.g)) (data_stores (sector_no c.args.active.sector) c.args.active.scan.data_end bs)) (entry-data c.args.head v c.requires.sized)
     (data-lie (blocks_of c.args.g) (sectors_of c.args.g) (sector_no c.args.active.sector) c.args.active.scan.data_end c.requires.carries.inside
     (rw (value-count 0 v) (inside (goal.at.returns c).Start)) (value-sized 0 v)) in
     let stored =

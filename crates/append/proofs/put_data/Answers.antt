@@ -48,11 +48,11 @@ data_block-block-requires c = omega (arith, (begins (goal.at.data_block-block-re
 
 pub overflow_add-first : goal.overflow_add-first
 overflow_add-first c =
-    omega (arith, (begins (goal.at.overflow_add-first c).In-loop-k).0, c.requires.value_bound, c.requires.backs.sound.blocks_to)
+    omega (arith, (begins (goal.at.overflow_add-first c).In-loop-k).0, c.requires.room, c.requires.backs.sound.blocks_to)
 
 pub put-stored-requires : goal.put-stored-requires
 put-stored-requires c =
-    let low : block_no c.new.result < blocks_of c.args.g = omega (arith, ap block_no c.new.ensures, (begins (goal.at.put-stored-requires c).In-loop-k).0, c.requires.value_bound) in
+    let low : block_no c.new.result < blocks_of c.args.g = omega (arith, ap block_no c.new.ensures, (begins (goal.at.put-stored-requires c).In-loop-k).0, c.requires.room) in
     record { backs = did-backs c.loop-k.invariant.1 c.requires.backs; s_bound = c.requires.sector_bound; b_bound = low }
 
 pub shape_of-image-then-stored : goal.shape_of-image-then-stored

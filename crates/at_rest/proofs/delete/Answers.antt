@@ -24,26 +24,26 @@ due : (c : In-Value) → delete_on (blocks_of c.args.g) (sectors_of c.args.g) (i
     ≡ change_on (blocks_of c.args.g) (sectors_of c.args.g) (sector_no c.args.w) (blocks_of c.args.g - kept_from_deletions) (deletion_entry c.args.id)
     (image_of (blocks_of c.args.g) (sectors_of c.args.g) c.args.image.now)
 due c =
-    let inside = rest-inside c.args.g c.args.image.now (sector_no c.args.w) c.requires.image_value in
+    let inside = rest-inside c.args.g c.args.image.now (sector_no c.args.w) c.requires.rest in
     let held = found-value c.args.g c.args.image.now c.requires.backs c.args.id (sector_no c.args.w) inside (sym c.find.ensures ∙ c.in-Value.is) in
-    delete-rest c.args.g c.args.image.now c.args.id c.requires.fact c.requires.image_value held.told
+    delete-rest c.args.g c.args.image.now c.args.id c.requires.legal_id c.requires.rest held.told
 
 pub find-requires : goal.find-requires
 find-requires c =
-    record { backs = c.requires.backs; w_bound = rest-inside c.args.g c.args.image.now (sector_no c.args.w) c.requires.image_value; fact = c.requires.fact }
+    record { backs = c.requires.backs; w_bound = rest-inside c.args.g c.args.image.now (sector_no c.args.w) c.requires.rest; legal_id = c.requires.legal_id }
 
 pub returns-in_default : goal.returns-in_default
 unfolding refusal_of
 returns-in_default c =
-    let inside = rest-inside c.args.g c.args.image.now (sector_no c.args.w) c.requires.image_value in
+    let inside = rest-inside c.args.g c.args.image.now (sector_no c.args.w) c.requires.rest in
     let nothing = found_nothing c.args.g c.args.image.now c.requires.backs c.args.id (sector_no c.args.w) inside (sym c.find.ensures ∙ c.in_default.is) in
     subst (Leaves _ _ _ _ _) (sym c.refused.ensures)
-    (leaves-refused _ c.args.allowance c.args.image.now refusal.Absent (delete-absent c.args.g c.args.image.now c.args.id c.requires.fact c.requires.image_value nothing))
+    (leaves-refused _ c.args.allowance c.args.image.now refusal.Absent (delete-absent c.args.g c.args.image.now c.args.id c.requires.legal_id c.requires.rest nothing))
 
 pub make-requires : goal.make-requires
 unfolding is_done need_of limit_of
 make-requires c =
-    record { backs = c.requires.backs; image_value = c.requires.image_value; changes = record { plain = refl; sized = refl; fits = omega (arith, c.requires.backs.sound.blocks_from) } }
+    record { backs = c.requires.backs; rest = c.requires.rest; changes = record { plain = refl; sized = refl; fits = omega (arith, c.requires.backs.sound.blocks_from) } }
 
 pub returns : goal.returns
 unfolding limit_of

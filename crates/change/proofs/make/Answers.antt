@@ -38,7 +38,7 @@ change-now B S w e im = refl
 
 -- what was read is the working sector
 inside : (k : Start) → sector_no k.args.w < sectors_of k.args.g
-inside k = rest-inside k.args.g k.args.image.now (sector_no k.args.w) k.requires.image_value
+inside k = rest-inside k.args.g k.args.image.now (sector_no k.args.w) k.requires.rest
 
 carried : (c : After-read-active) → Carries c.args.g c.args.image.now c.read-active.result
 carried c = carries-at c.args.g c.args.image.now (sector_no c.args.w) (inside c.before.before.before.before) c.read-active.ensures
@@ -72,11 +72,11 @@ read-active-requires c =
 pub admits-requires : goal.admits-requires
 admits-requires c =
     let small = (scan-bounded c.args.g c.args.image.now (sector_no c.args.w) (inside (goal.at.admits-requires c).Start) c.requires.backs.sound).small in
-    record { sound = c.requires.backs.sound; small = rw c.read-active.ensures small; head_bound = changes-short (blocks_of c.args.g) c.args.head c.requires.backs.sound.blocks_to c.requires.changes }
+    record { sound = c.requires.backs.sound; small = rw c.read-active.ensures small; length_fits = changes-short (blocks_of c.args.g) c.args.head c.requires.backs.sound.blocks_to c.requires.changes }
 
 pub append-made-requires : goal.append-made-requires
 append-made-requires c =
-    record { backs = c.requires.backs; carries = carried (goal.at.append-made-requires c).After-read-active; consistent = subst Consistent (sym c.new.ensures) (new-consistent c.args.allowance); head_value = sym (tested (goal.at.append-made-requires c).After-admits) ∙ c.if-admits.true; head_value_2 = c.requires.changes.sized }
+    record { backs = c.requires.backs; carries = carried (goal.at.append-made-requires c).After-read-active; consistent = subst Consistent (sym c.new.ensures) (new-consistent c.args.allowance); fits = sym (tested (goal.at.append-made-requires c).After-admits) ∙ c.if-admits.true; sized = c.requires.changes.sized }
 
 pub ended-requires : goal.ended-requires
 ended-requires c = left-within (appended (goal.at.ended-requires c).After-append-made)
@@ -87,7 +87,7 @@ returns-then-admits c =
 
 pub make_turning-requires : goal.make_turning-requires
 make_turning-requires c =
-    record { backs = c.requires.backs; opened = record { carried = carried (goal.at.make_turning-requires c).After-read-active; rest = c.requires.image_value ∙ ap (λ (s : ℕ). some (at_rest s)) (sym (here (goal.at.make_turning-requires c).After-read-active)) }; changes = c.requires.changes; head_value = sym (tested (goal.at.make_turning-requires c).After-admits) ∙ c.if-admits.false }
+    record { backs = c.requires.backs; opened = record { carried = carried (goal.at.make_turning-requires c).After-read-active; rest = c.requires.rest ∙ ap (λ (s : ℕ). some (at_rest s)) (sym (here (goal.at.make_turning-requires c).After-read-active)) }; changes = c.requires.changes; full = sym (tested (goal.at.make_turning-requires c).After-admits) ∙ c.if-admits.false }
 
 pub returns : goal.returns
 returns c =

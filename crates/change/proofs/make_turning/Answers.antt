@@ -54,7 +54,7 @@ need-requires c =
 pub turns_needed-fit-requires : goal.turns_needed-fit-requires
 turns_needed-fit-requires c =
     let few = limit-few (blocks_of c.args.g) (head_of c.args.head) in
-    let full = beyond-limit (blocks_of c.args.g) (scan_of c.args.active.scan) (head_of c.args.head) c.requires.changes.plain c.requires.head_value in record { backs = c.requires.backs; counts = c.entry_counts-counts.ensures; w_bound = c.requires.opened.carried.inside; need_le_max_sector_size = omega (arith, c.need.ensures, c.requires.changes.fits, few, c.requires.backs.sound.blocks_to); limit_bound = omega (arith, c.need.ensures, c.limit.ensures, full, active-needs c.args.g c.args.image.now c.requires.opened.carried) }
+    let full = beyond-limit (blocks_of c.args.g) (scan_of c.args.active.scan) (head_of c.args.head) c.requires.changes.plain c.requires.full in record { backs = c.requires.backs; counts = c.entry_counts-counts.ensures; w_bound = c.requires.opened.carried.inside; need_bound = omega (arith, c.need.ensures, c.requires.changes.fits, few, c.requires.backs.sound.blocks_to); limit_bound = omega (arith, c.need.ensures, c.limit.ensures, full, active-needs c.args.g c.args.image.now c.requires.opened.carried) }
 
 pub returns-in_default : goal.returns-in_default
 unfolding refusal_of
@@ -88,7 +88,7 @@ append-made-requires c =
     room-left c.args.g c.args.image.now (sector_no c.args.active.sector) c.in-After.turn_count c.requires.backs (typed (goal.at.append-made-requires c).After-slice_known-1) c.requires.opened.rest (turned (goal.at.append-made-requires c).After-turns-moved) uncut here
     (need_of (entry_for c.args.head c.args.value.now).head) (limit_of (blocks_of c.args.g) (head_of c.args.head)) least rests.carried.told in
     let fits = fits-within (blocks_of c.args.g) (scan_of c.turns-moved.result.active.scan) (head_of c.args.head) c.requires.changes.plain (omega (arith, room, ap need_of (headed (goal.at.append-made-requires c).Start))) in
-    record { backs = did-backs (turned (goal.at.append-made-requires c).After-turns-moved) c.requires.backs; carries = rests.carried; consistent = did-consistent (turned (goal.at.append-made-requires c).After-turns-moved) (new-consistent c.args.allowance); head_value = fits; head_value_2 = c.requires.changes.sized }
+    record { backs = did-backs (turned (goal.at.append-made-requires c).After-turns-moved) c.requires.backs; carries = rests.carried; consistent = did-consistent (turned (goal.at.append-made-requires c).After-turns-moved) (new-consistent c.args.allowance); fits = fits; sized = c.requires.changes.sized }
 
 pub overflow_cast-turn_count-2 : goal.overflow_cast-turn_count-2
 overflow_cast-turn_count-2 c = omega (arith, below (goal.at.overflow_cast-turn_count-2 c).After-turns-moved, c.requires.backs.sound.sectors_to)

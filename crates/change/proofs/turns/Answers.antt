@@ -33,7 +33,7 @@ pub turn-turned-requires : goal.turn-turned-requires
 turn-turned-requires c = let l = c.loop-due in
     let g = c.args.g in
     let i = l.invariant in
-    record { backs = i.backs; counts = i.counted; w_bound = rest-inside g l.image (sector_no l.working.sector) i.rests.rest; w_value = rests-spare g l.image (sector_no l.working.sector) i.rests.rest; consistent = i.consistent }
+    record { backs = i.backs; counts = i.counted; w_bound = rest-inside g l.image (sector_no l.working.sector) i.rests.rest; spare_empty = rests-spare g l.image (sector_no l.working.sector) i.rests.rest; consistent = i.consistent }
 
 pub shape_of-image-then-left : goal.shape_of-image-then-left
 shape_of-image-then-left c =

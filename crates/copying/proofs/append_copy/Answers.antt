@@ -46,7 +46,7 @@ block_from k = block_at (blocks_in k.args.g k.args.image.now) (sector_no k.args.
 told : (c : After-slice_known-1) → Copied (blocks_of c.args.g) (sector_from c.before) (block_from c.before) (entry_from c.before)
 told c =
     let typed = at_each (λ b. b < 256) 0 c.args.image.now (λ i h. omega (arith, c.slice_known-1.given i)) in
-    copied-in c.args.g c.args.image.now (sector_no c.args.from) c.args.n c.requires.backs typed c.requires.from_bound c.requires.n_in_bounds c.requires.n_value
+    copied-in c.args.g c.args.image.now (sector_no c.args.from) c.args.n c.requires.backs typed c.requires.from_bound c.requires.n_in_bounds c.requires.valued
 
 block-is : (c : After-block_of-block) → c.block_of-block.result ≡ block_from c.before.before.before.before
 block-is c = rw (c.new.ensures, c.blocks-2.ensures) at c.block_of-block.ensures
@@ -66,7 +66,7 @@ module _ (c : After-source_of-source) where
   within :
       is_within (blocks_of c.args.g) (scan_of c.args.active.scan) (value c.source_of-source.result.id c.source_of-source.result.length) ≡ true
   within =
-      subst (λ (h : Head). is_within (blocks_of c.args.g) (scan_of c.args.active.scan) h ≡ true) head-is c.requires.n_value_2
+      subst (λ (h : Head). is_within (blocks_of c.args.g) (scan_of c.args.active.scan) h ≡ true) head-is c.requires.fits
 
   fitting : Fits (blocks_of c.args.g) c.args.active (head.Value c.source_of-source.result.id c.source_of-source.result.length)
   fitting =
@@ -127,7 +127,7 @@ copied-bytes-requires c = record { block_len = search rules; data_end_bound = (f
 
 pub copy_data-laid-requires : goal.copy_data-laid-requires
 copy_data-laid-requires c =
-    record { backs = c.requires.backs; from_bound = c.requires.from_bound; sector_bound = (carried (goal.at.copy_data-laid-requires c).Start).inside; fact = c.requires.fact; consistent = c.requires.consistent; length_bound = source-inside (goal.at.copy_data-laid-requires c).After-source_of-source; length_bound_2 = target-inside (goal.at.copy_data-laid-requires c).After-source_of-source }
+    record { backs = c.requires.backs; from_bound = c.requires.from_bound; sector_bound = (carried (goal.at.copy_data-laid-requires c).Start).inside; apart = c.requires.apart; consistent = c.requires.consistent; source_inside = source-inside (goal.at.copy_data-laid-requires c).After-source_of-source; target_inside = target-inside (goal.at.copy_data-laid-requires c).After-source_of-source }
 
 pub returns-then-laid : goal.returns-then-laid
 returns-then-laid c = record {

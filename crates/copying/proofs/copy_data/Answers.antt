@@ -25,7 +25,7 @@ use Rattle.copying.proofs.copy_data.Goals.{After-put-stored, At-loop-k}
 bounds : (l : At-loop-k)
     → (l.args.source.first + l.data_blocks-count.result ≤ blocks_of l.args.g) × (l.args.active.scan.data_end + l.data_blocks-count.result ≤ blocks_of l.args.g)
 bounds l =
-    (omega (arith, l.data_blocks-count.ensures, l.requires.length_bound), omega (arith, l.data_blocks-count.ensures, l.requires.length_bound_2))
+    (omega (arith, l.data_blocks-count.ensures, l.requires.source_inside), omega (arith, l.data_blocks-count.ensures, l.requires.target_inside))
 
 -- the sector that is copied from is as it was
 stays : (l : At-loop-k)
@@ -38,7 +38,7 @@ stays l =
     omega (arith, length-take-le l.loop-k.k blocks few, l.loop-k.invariant.0, (bounds l).1) in
     let lie = data-lie (blocks_of l.args.g) (sectors_of l.args.g) (sector_no l.args.active.sector) l.args.active.scan.data_end l.requires.sector_bound inside
     (each_take l.loop-k.k (source-sized l.args.g l.args.image.now (sector_no l.args.from) l.args.source.first l.data_blocks-count.result l.requires.backs l.requires.from_bound (bounds l).0)) in
-    source_stays (sector_no l.args.active.sector) l.args.active.scan.data_end (sector_no l.args.from) (take l.loop-k.k blocks) l.requires.backs l.requires.fact lie l.loop-k.invariant.1
+    source_stays (sector_no l.args.active.sector) l.args.active.scan.data_end (sector_no l.args.from) (take l.loop-k.k blocks) l.requires.backs l.requires.apart lie l.loop-k.invariant.1
 
 -- one block more
 more : (c : After-put-stored)

@@ -60,14 +60,14 @@ named : (c : After-id_in)
     ≡ eqb c.id_in.result c.args.id
 named c =
     let lies = entry-lies c.args.g c.args.image.now c.requires.backs (sector_no c.args.s) _ c.requires.s_bound (inside (record { before = c.before.before.before; type_inv = record { heads = c.type_inv.heads; links = c.type_inv.links; image = c.type_inv.image } })) in
-    named-id c.args.id c.requires.fact _ ∙ ap (λ (i : ℕ). eqb i c.args.id) (sym (c.id_in.ensures ∙ ap id_of c.entry_block-block.ensures ∙ lies.id))
+    named-id c.args.id c.requires.legal_id _ ∙ ap (λ (i : ℕ). eqb i c.args.id) (sym (c.id_in.ensures ∙ ap id_of c.entry_block-block.ensures ∙ lies.id))
 
 -- and its link leads to the next older one of the bucket
 older : (c : In-loop-link)
     → let n = c.loop-link.link - 1 in
     Narrowed c.args.id (entries_of c.args.g c.args.image.now c.args.s) n (get_or c.args.links.now n 0)
 older c =
-    narrowed-older c.args.id c.requires.fact _ c.loop-link.invariant (above c) (c.requires.indexes.older _ (counted c))
+    narrowed-older c.args.id c.requires.legal_id _ c.loop-link.invariant (above c) (c.requires.indexes.older _ (counted c))
 
 pub offset_bounds-heads-at : goal.offset_bounds-heads-at
 offset_bounds-heads-at c = omega (arith, at_low (goal.at.offset_bounds-heads-at c).After-bucket-at)
@@ -81,7 +81,7 @@ overflow_cast-link c = omega (arith, c.type_inv.heads c.bucket-at.result)
 
 pub loop-link-init : goal.loop-link-init
 loop-link-init c =
-    rw (newest (goal.at.loop-link-init c).After-bucket-at) (narrowed c.args.id c.requires.fact _ c.args.count)
+    rw (newest (goal.at.loop-link-init c).After-bucket-at) (narrowed c.args.id c.requires.legal_id _ c.args.count)
 
 pub entry_block-block-requires : goal.entry_block-block-requires
 entry_block-block-requires c =
@@ -114,7 +114,7 @@ loop-link-smaller c =
 pub loop-link-preserved : goal.loop-link-preserved
 loop-link-preserved c =
     let other = named (goal.at.loop-link-preserved c).After-id_in ∙ ne_eqb _ _ c.if-id_in-id.false in
-    narrowed-next c.args.id c.requires.fact _ c.loop-link.invariant (above (goal.at.loop-link-preserved c).In-loop-link) other (older (goal.at.loop-link-preserved c).In-loop-link)
+    narrowed-next c.args.id c.requires.legal_id _ c.loop-link.invariant (above (goal.at.loop-link-preserved c).In-loop-link) other (older (goal.at.loop-link-preserved c).In-loop-link)
 
 pub returns : goal.returns
 returns c = let none_left : c.loop-link.link ≡ 0 = omega (arith, c.loop-link-test.false) in

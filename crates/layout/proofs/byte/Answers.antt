@@ -8,4 +8,4 @@ pub overflow_cast-result : goal.overflow_cast-result
 overflow_cast-result c = omega (arith, c.shared_slice_known-1.given c.args.at)
 
 pub returns : goal.returns
-returns c = record { value = refl; upper_bound = (c.shared_slice_known-1.given c.args.at).fits }
+returns c = record { value = refl; is_byte = (c.shared_slice_known-1.given c.args.at).fits }

@@ -31,7 +31,7 @@ newest_in-requires c =
     let counted =
     read_count c.args.g c.args.image.now c.args.s.0 c.requires.s_bound c.cycle_at-cycle.ensures c.sector_bytes-bytes.ensures c.take_entries-entries.ensures
     ∙ ap (λ (v : View). length v.entries) (seen (goal.at.newest_in-requires c).After-sector_bytes-bytes) in
-    record { sound = c.requires.backs.sound; sector_len = sized (goal.at.newest_in-requires c).After-sector_bytes-bytes; entries_value = counted; fact = c.requires.fact }
+    record { sound = c.requires.backs.sound; sector_len = sized (goal.at.newest_in-requires c).After-sector_bytes-bytes; counted = counted; legal_id = c.requires.legal_id }
 
 pub returns : goal.returns
 returns c = rw (seen (goal.at.returns c).After-sector_bytes-bytes) c.newest_in.ensures

@@ -13,7 +13,7 @@ loop-left-init c =
 
 pub newest_at-hit-requires : goal.newest_at-hit-requires
 newest_at-hit-requires c =
-    record { backs = c.requires.backs; s_bound = c.loop-left.invariant.inside; fact = c.requires.fact }
+    record { backs = c.requires.backs; s_bound = c.loop-left.invariant.inside; legal_id = c.requires.legal_id }
 
 pub returns-in-At : goal.returns-in-At
 returns-in-At c =

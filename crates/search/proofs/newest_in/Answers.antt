@@ -22,7 +22,7 @@ use Rattle.search.proofs.newest_in.Goals.{After-block_bytes-block, After-id_in, 
 inside : (c : In-loop-n)
     → c.loop-n.n - 1 < length (entries_in c.args.g c.args.sector.now)
 inside c =
-    omega (arith, c.loop-n-test.true, c.loop-n.invariant.0, c.requires.entries_value)
+    omega (arith, c.loop-n-test.true, c.loop-n.invariant.0, c.requires.counted)
 
 low : (c : In-loop-n)
     → c.loop-n.n - 1 < blocks_of c.args.g - 3
@@ -39,7 +39,7 @@ named : (c : After-id_in)
     → is_named c.args.id (get_or (entries_in c.args.g c.args.sector.now) (c.loop-n.n - 1) no_entry).head ≡ eqb c.id_in.result c.args.id
 named c =
     let block = rw (ap block_no c.new.ensures, c.blocks-in-loop-n.ensures) at c.block_bytes-block.ensures in
-    named_by _ _ c.requires.sound.blocks_from c.requires.sector_len _ c.requires.fact _ (inside (record { before = c.before.before.before.before.before; type_inv = record { sector = c.type_inv.sector } })) block
+    named_by _ _ c.requires.sound.blocks_from c.requires.sector_len _ c.requires.legal_id _ (inside (record { before = c.before.before.before.before.before; type_inv = record { sector = c.type_inv.sector } })) block
     ∙ ap (λ (i : ℕ). eqb i c.args.id) (sym c.id_in.ensures)
 
 -- n is one more than n - 1
@@ -47,7 +47,7 @@ above : (c : In-loop-n) → c.loop-n.n ≡ suc (c.loop-n.n - 1)
 above c = omega (arith, c.loop-n-test.true)
 
 pub loop-n-init : goal.loop-n-init
-loop-n-init c = (omega arith, rw c.requires.entries_value (last-of-all _ _))
+loop-n-init c = (omega arith, rw c.requires.counted (last-of-all _ _))
 
 pub overflow_sub-blocks-in-loop-n : goal.overflow_sub-blocks-in-loop-n
 overflow_sub-blocks-in-loop-n c = omega (arith, low (goal.at.overflow_sub-blocks-in-loop-n c).In-loop-n)

@@ -53,7 +53,7 @@ survey-requires c = backs (goal.at.survey-requires c).In-Legal
 
 pub delete-requires : goal.delete-requires
 delete-requires c =
-    record { backs = backs (goal.at.delete-requires c).In-Legal; image_value = rest (goal.at.delete-requires c).In-Working; fact = c.if-id-eq-RESERVED_ID.false }
+    record { backs = backs (goal.at.delete-requires c).In-Legal; rest = rest (goal.at.delete-requires c).In-Working; legal_id = c.if-id-eq-RESERVED_ID.false }
 
 pub returns-in-Working : goal.returns-in-Working
 returns-in-Working c =

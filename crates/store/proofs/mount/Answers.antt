@@ -49,7 +49,7 @@ returns-in_default-mount_turns c =
 
 pub mount-budget-requires : goal.mount-budget-requires
 mount-budget-requires c =
-    record { backs = backs (goal.at.mount-budget-requires c).In-Legal; status_value = sym (survey-state _ _ c.survey-status.ensures); consistent = subst Consistent (sym c.new-2.ensures) (new-consistent c.args.allowance) }
+    record { backs = backs (goal.at.mount-budget-requires c).In-Legal; surveyed = sym (survey-state _ _ c.survey-status.ensures); consistent = subst Consistent (sym c.new-2.ensures) (new-consistent c.args.allowance) }
 
 pub ended-requires : goal.ended-requires
 ended-requires c = left-within (rw c.new-2.ensures at c.mount-budget.ensures)

@@ -61,7 +61,7 @@ pub read-requires : goal.read-requires
 read-requires c =
     let at_rest_lem = rest (goal.at.read-requires c).In-Working in
     let inside = rest-inside c.in-Legal.g c.args.image.now (sector_no c.in-Working.w) at_rest_lem in
-    record { backs = backs (goal.at.read-requires c).In-Legal; w_bound = inside; fact = c.if-id-eq-RESERVED_ID.false }
+    record { backs = backs (goal.at.read-requires c).In-Legal; w_bound = inside; legal_id = c.if-id-eq-RESERVED_ID.false }
 
 pub returns-in-Working : goal.returns-in-Working
 returns-in-Working c =

@@ -92,7 +92,7 @@ fits o =
 pub make-requires : goal.make-requires
 unfolding is_done limit_of
 make-requires c =
-    record { backs = backs (goal.at.make-requires c).In-Legal; image_value = rest (goal.at.make-requires c).In-Working; changes = record { plain = refl; sized = refl; fits = fits (goal.at.make-requires c).After-open_sector } }
+    record { backs = backs (goal.at.make-requires c).In-Legal; rest = rest (goal.at.make-requires c).In-Working; changes = record { plain = refl; sized = refl; fits = fits (goal.at.make-requires c).After-open_sector } }
 
 pub returns-in-Working : goal.returns-in-Working
 unfolding limit_of

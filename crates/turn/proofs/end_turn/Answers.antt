@@ -41,7 +41,7 @@ module _ (k : Start) where
 
 pub append-done-requires : goal.append-done-requires
 append-done-requires c =
-    record { backs = c.requires.backs; carries = c.requires.carries; consistent = c.requires.consistent; head_value = c.requires.done_value; head_value_2 = refl }
+    record { backs = c.requires.backs; carries = c.requires.carries; consistent = c.requires.consistent; fits = c.requires.done_fits; sized = refl }
 
 pub returns-then-done : goal.returns-then-done
 returns-then-done c =
@@ -69,7 +69,7 @@ returns c =
     let did = c.append-done.ensures.did in
     let bytes = typed (goal.at.returns c).After-slice_known-1 in
     let carried = c.requires.carries in
-    let lies = append-lies c.requires.backs bytes carried.inside carried.told done-proper c.requires.done_value did in
+    let lies = append-lies c.requires.backs bytes carried.inside carried.told done-proper c.requires.done_fits did in
     let uncut = c.if-done.false in
     let reopened =
     subst (λ (s : ℕ). Did g middle (reopen B s (blocks_in g middle)) c.append-done.result.budget c.reopen.new.image c.reopen.result)
@@ -84,11 +84,11 @@ returns c =
           record {
             told =
                 c.append-done.ensures.active uncut
-                ∙ appended-active c.requires.backs bytes carried.inside carried.told done-proper c.requires.done_value did uncut
+                ∙ appended-active c.requires.backs bytes carried.inside carried.told done-proper c.requires.done_fits did uncut
                 ∙ ap (active_as u) (sym (others u (λ same. apart (goal.at.returns c).Start (sym same))));
             unused = ap (λ (v : View). v.entries) (step-here reopened_view o backs atomic reopened made (oldest-inside (goal.at.returns c).Start));
             others = λ t other away.
                 ap (λ (v : View). v.entries)
-                (others t away ∙ appended-others c.requires.backs bytes carried.inside carried.told done-proper c.requires.done_value did uncut t other);
+                (others t away ∙ appended-others c.requires.backs bytes carried.inside carried.told done-proper c.requires.done_fits did uncut t other);
           };
     }

@@ -33,7 +33,7 @@ pub end_turn-requires : goal.end_turn-requires
 end_turn-requires c =
     let left = c.gather-gathered.ensures.gathered c.if-gathered.false in
     let did = c.gather-gathered.ensures.did in
-    record { backs = did-backs did c.requires.backs; carries = carries-at c.args.g c.gather-gathered.new.image (sector_no c.args.active.sector) c.requires.carries.inside left.told; done_value = left.room; consistent = did-consistent did c.requires.consistent }
+    record { backs = did-backs did c.requires.backs; carries = carries-at c.args.g c.gather-gathered.new.image (sector_no c.args.active.sector) c.requires.carries.inside left.told; done_fits = left.room; consistent = did-consistent did c.requires.consistent }
 
 pub returns : goal.returns
 unfolding finish_turn
@@ -50,5 +50,5 @@ returns c =
     subst (λ (s : ℕ). Turned g s c.gather-gathered.new.image ((append B s done_entry and_then reopen B (next S s)) (blocks_in g c.gather-gathered.new.image)) c.gather-gathered.result.budget c.end_turn.new.image c.end_turn.result)
     here c.end_turn.ensures in
     turned_then (append_all B u (survivors B u (blocks_in g bytes))) (append B u done_entry and_then reopen B (next S u)) c.requires.backs
-    (survivors-lie g bytes u c.requires.backs c.requires.carries.inside whole c.requires.sector_value) c.gather-gathered.ensures.did c.if-gathered.false
+    (survivors-lie g bytes u c.requires.backs c.requires.carries.inside whole c.requires.empty) c.gather-gathered.ensures.did c.if-gathered.false
     (λ t other. ap (λ (v : View). v.entries) (left.others t other)) ended

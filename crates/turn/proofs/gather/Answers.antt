@@ -56,7 +56,7 @@ counted c =
 
 pub marks-live-requires : goal.marks-live-requires
 marks-live-requires c =
-    record { backs = c.requires.backs; counts = c.requires.counts; w_bound = newest-inside (goal.at.marks-live-requires c).After-previous_sector-newest; s_bound = oldest-inside (goal.at.marks-live-requires c).After-previous_sector-newest; fact = (λ same. apart (goal.at.marks-live-requires c).After-previous_sector-newest (same ∙ newest-is (goal.at.marks-live-requires c).After-previous_sector-newest)) }
+    record { backs = c.requires.backs; counts = c.requires.counts; w_bound = newest-inside (goal.at.marks-live-requires c).After-previous_sector-newest; s_bound = oldest-inside (goal.at.marks-live-requires c).After-previous_sector-newest; not_spare = (λ same. apart (goal.at.marks-live-requires c).After-previous_sector-newest (same ∙ newest-is (goal.at.marks-live-requires c).After-previous_sector-newest)) }
 
 pub offset_bounds-counts-number : goal.offset_bounds-counts-number
 offset_bounds-counts-number c = omega (arith, low (goal.at.offset_bounds-counts-number c).After-number-number)
@@ -73,7 +73,7 @@ copy_live-requires c =
     let views = views_in c.args.g c.args.image.now in
     let count = counted (goal.at.copy_live-requires c).After-number-number ∙ ap (λ (s : ℕ). length (view_at views s).entries) (oldest-is (goal.at.copy_live-requires c).After-previous_sector-newest) in
     let marks = c.marks-live.ensures ∙ ap₂ (λ (u s : ℕ). padded max_marks (live_flags_in u s views)) (newest-is (goal.at.copy_live-requires c).After-previous_sector-newest) (oldest-is (goal.at.copy_live-requires c).After-previous_sector-newest) in
-    record { backs = c.requires.backs; carries = c.requires.carries; consistent = c.requires.consistent; count_value = count; live_value = marks; sector_value = c.requires.sector_value }
+    record { backs = c.requires.backs; carries = c.requires.carries; consistent = c.requires.consistent; counted = count; live_marked = marks; empty = c.requires.empty }
 
 pub returns : goal.returns
 returns c =

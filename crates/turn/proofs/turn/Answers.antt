@@ -69,7 +69,7 @@ module _ (d : After-close-left) (whole : d.close-left.result.cut ≡ false) wher
 pub unused-spare-requires : goal.unused-spare-requires
 unused-spare-requires c =
     let inside = next-lt (sectors_of c.args.g) (sector_no c.args.w) c.requires.w_bound in
-    record { backs = c.requires.backs; s_bound = omega (arith, c.next_sector.ensures, inside); s_value = ap (λ (s : ℕ). (view_at (views_in c.args.g c.args.image.now) s).entries) c.next_sector.ensures ∙ c.requires.w_value }
+    record { backs = c.requires.backs; s_bound = omega (arith, c.next_sector.ensures, inside); empty = ap (λ (s : ℕ). (view_at (views_in c.args.g c.args.image.now) s).entries) c.next_sector.ensures ∙ c.requires.spare_empty }
 
 pub returns-then-left : goal.returns-then-left
 unfolding turn
@@ -84,8 +84,8 @@ finish_turn-requires c =
     let o : ℕ = next (sectors_of c.args.g) (sector_no c.args.w) in
     let inside : o < sectors_of c.args.g = next-lt (sectors_of c.args.g) (sector_no c.args.w) c.requires.w_bound in
     let here : sector_no c.unused-spare.result.sector ≡ o = ap (λ (x : Active). sector_no x.sector) (spare-told (goal.at.finish_turn-requires c).After-close-left whole) in
-    let empty = ap (λ (s : ℕ). (view_at (views_in c.args.g c.close-left.new.image) s).entries) here ∙ entries-stay (goal.at.finish_turn-requires c).After-close-left whole o ∙ c.requires.w_value in
-    record { backs = did-backs c.close-left.ensures c.requires.backs; counts = counts-stay (goal.at.finish_turn-requires c).After-close-left whole; carries = carries-at c.args.g c.close-left.new.image o inside (spare-told (goal.at.finish_turn-requires c).After-close-left whole); sector_value = empty; consistent = did-consistent c.close-left.ensures c.requires.consistent }
+    let empty = ap (λ (s : ℕ). (view_at (views_in c.args.g c.close-left.new.image) s).entries) here ∙ entries-stay (goal.at.finish_turn-requires c).After-close-left whole o ∙ c.requires.spare_empty in
+    record { backs = did-backs c.close-left.ensures c.requires.backs; counts = counts-stay (goal.at.finish_turn-requires c).After-close-left whole; carries = carries-at c.args.g c.close-left.new.image o inside (spare-told (goal.at.finish_turn-requires c).After-close-left whole); empty = empty; consistent = did-consistent c.close-left.ensures c.requires.consistent }
 
 pub returns : goal.returns
 unfolding turn

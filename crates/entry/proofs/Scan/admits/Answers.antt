@@ -13,7 +13,7 @@ use Rattle.entry.proofs.Scan.admits.Goals as goal
 use Rattle.entry.proofs.Scan.admits.Goals.{After-data_blocks}
 
 few : (c : After-data_blocks) → c.data_blocks.result < 2 ^ 16
-few c = rw c.data_blocks.ensures (few-data _ c.in-Value.is c.requires.head_bound)
+few c = rw c.data_blocks.ensures (few-data _ c.in-Value.is c.requires.length_fits)
 
 pub overflow_add-result-in-Value : goal.overflow_add-result-in-Value
 overflow_add-result-in-Value c = omega (arith, few (goal.at.overflow_add-result-in-Value c).After-data_blocks)

@@ -13,7 +13,7 @@ use Rattle.entry.proofs.Scan.after.Goals as goal
 use Rattle.entry.proofs.Scan.after.Goals.{After-data_blocks-data}
 
 few : (c : After-data_blocks-data) → c.data_blocks-data.result < 2 ^ 16
-few c = rw c.data_blocks-data.ensures (few-data _ c.in-Value.is c.requires.head_bound)
+few c = rw c.data_blocks-data.ensures (few-data _ c.in-Value.is c.requires.length_fits)
 
 pub overflow_add-result-in-Value : goal.overflow_add-result-in-Value
 overflow_add-result-in-Value c = omega (arith, few (goal.at.overflow_add-result-in-Value c).After-data_blocks-data)

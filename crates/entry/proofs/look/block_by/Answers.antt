@@ -43,11 +43,11 @@ found : (c : In-Right)
     → looked c.before.before.before.before.before.before.before.before.before.before ≡ judged_as c.before.before.before.before.before.before.before.before.before.before (some (head_of c.in-Right.head))
 found c =
     judged (record { before = c.before.before.before; type_inv = record { block = c.shared_slice_known-2-1.given } })
-    ∙ ap (judged_as c.before.before.before.before.before.before.before.before.before.before) (right-form _ (sym c.head_of.ensures.value ∙ c.in-Right.is))
+    ∙ ap (judged_as c.before.before.before.before.before.before.before.before.before.before) (right-form _ (sym c.head_of.ensures.form ∙ c.in-Right.is))
 
 -- the length of the head that was found fits two bytes
 short : (c : In-Right) → length_of c.in-Right.head < 2 ^ 16
-short c = rw c.in-Right.is at c.head_of.ensures.result_bound
+short c = rw c.in-Right.is at c.head_of.ensures.length_fits
 
 pub returns-then-is_erased : goal.returns-then-is_erased
 unfolding look
@@ -70,16 +70,16 @@ returns-then-not-is_checked_by c = let block : List ℕ = c.args.block.now in
 
 pub returns-in_default : goal.returns-in_default
 returns-in_default c =
-    let form = wrong-form _ (sym c.head_of.ensures.value ∙ c.in_default.is) in
+    let form = wrong-form _ (sym c.head_of.ensures.form ∙ c.in_default.is) in
     sym (ap (verdict_as (scan_of c.args.before)) (judged (goal.at.returns-in_default c).Else-not-is_checked_by ∙ ap (judged_as (goal.at.returns-in_default c).Start) form ∙ judge-none _ _))
 
 pub admits-requires : goal.admits-requires
 admits-requires c =
-    record { sound = c.requires.sound; small = c.requires.small; head_bound = short (goal.at.admits-requires c).In-Right }
+    record { sound = c.requires.sound; small = c.requires.small; length_fits = short (goal.at.admits-requires c).In-Right }
 
 pub after-requires : goal.after-requires
 after-requires c =
-    record { small = c.requires.small; head_bound = short (goal.at.after-requires c).In-Right }
+    record { small = c.requires.small; length_fits = short (goal.at.after-requires c).In-Right }
 
 pub returns-then-admits : goal.returns-then-admits
 returns-then-admits c =

@@ -42,52 +42,52 @@ pub returns-then-is_erased : goal.returns-then-is_erased
 unfolding body_of
 returns-then-is_erased c =
     let padded = erased-rest 8 (block (goal.at.returns-then-is_erased c).After-le16-length) c.is_erased.ensures c.if-is_erased.true in
-    record { value = by-fields (goal.at.returns-then-is_erased c).After-le16-length (kind-form _ _ _ _ (is-done c.if-id.true c.if-length-eq0.true padded)); result_bound = omega arith }
+    record { form = by-fields (goal.at.returns-then-is_erased c).After-le16-length (kind-form _ _ _ _ (is-done c.if-id.true c.if-length-eq0.true padded)); length_fits = omega arith }
 
 pub returns-else-is_erased : goal.returns-else-is_erased
 unfolding body_of form_of
 returns-else-is_erased c =
     let filled = erased-rest 8 (block (goal.at.returns-else-is_erased c).After-le16-length) c.is_erased.ensures c.if-is_erased.false in
-    record { value = by-fields (goal.at.returns-else-is_erased c).After-le16-length {head = none} (simp (eq-eqb _ _ c.if-id.true, eq-eqb _ _ c.if-length-eq0.true, filled, if-true, when_false)); result_bound = omega arith }
+    record { form = by-fields (goal.at.returns-else-is_erased c).After-le16-length {head = none} (simp (eq-eqb _ _ c.if-id.true, eq-eqb _ _ c.if-length-eq0.true, filled, if-true, when_false)); length_fits = omega arith }
 
 pub returns-else-length-eq0 : goal.returns-else-length-eq0
 unfolding form_of
 returns-else-length-eq0 c =
-    record { value = by-fields (goal.at.returns-else-length-eq0 c).After-le16-length {head = none} (simp (eq-eqb _ _ c.if-id.true, ne_eqb _ _ c.if-length-eq0.false, if-true, when_false)); result_bound = omega arith }
+    record { form = by-fields (goal.at.returns-else-length-eq0 c).After-le16-length {head = none} (simp (eq-eqb _ _ c.if-id.true, ne_eqb _ _ c.if-length-eq0.false, if-true, when_false)); length_fits = omega arith }
 
 pub returns-then-is_erased-2 : goal.returns-then-is_erased-2
 unfolding body_of
 returns-then-is_erased-2 c =
     let padded = erased-rest 8 (block (goal.at.returns-then-is_erased-2 c).After-le16-length) c.is_erased-then-length-eq0-2.ensures c.if-is_erased-2.true in
-    record { value = by-fields (goal.at.returns-then-is_erased-2 c).After-le16-length (kind-form _ _ _ _ (is-deletion c.if-id.false c.if-length-eq0-2.true padded)); result_bound = omega arith }
+    record { form = by-fields (goal.at.returns-then-is_erased-2 c).After-le16-length (kind-form _ _ _ _ (is-deletion c.if-id.false c.if-length-eq0-2.true padded)); length_fits = omega arith }
 
 pub returns-then-length-eq0-2 : goal.returns-then-length-eq0-2
 unfolding body_of form_of
 returns-then-length-eq0-2 c =
     let filled = erased-rest 8 (block (goal.at.returns-then-length-eq0-2 c).After-le16-length) c.is_erased-then-length-eq0-2.ensures c.if-is_erased-2.false in
-    record { value = by-fields (goal.at.returns-then-length-eq0-2 c).After-le16-length {head = none} (simp (ne_eqb _ _ c.if-id.false, eq-eqb _ _ c.if-length-eq0-2.true, filled, if-true, if-false, when_false)); result_bound = omega arith }
+    record { form = by-fields (goal.at.returns-then-length-eq0-2 c).After-le16-length {head = none} (simp (ne_eqb _ _ c.if-id.false, eq-eqb _ _ c.if-length-eq0-2.true, filled, if-true, if-false, when_false)); length_fits = omega arith }
 
 pub returns-then-is_erased-3 : goal.returns-then-is_erased-3
 returns-then-is_erased-3 c =
     let padded = behind (goal.at.returns-then-is_erased-3 c).After-is_erased-then-length-le-SMALL c.if-is_erased-3.true in
-    record { value = by-fields (goal.at.returns-then-is_erased-3 c).After-le16-length (kind-form _ _ _ _ (is-small-value c.if-id.false (omega arith) c.if-length-le-SMALL.true padded)); result_bound = omega arith }
+    record { form = by-fields (goal.at.returns-then-is_erased-3 c).After-le16-length (kind-form _ _ _ _ (is-small-value c.if-id.false (omega arith) c.if-length-le-SMALL.true padded)); length_fits = omega arith }
 
 pub returns-then-length-le-SMALL : goal.returns-then-length-le-SMALL
 unfolding form_of
 returns-then-length-le-SMALL c =
     let filled = behind (goal.at.returns-then-length-le-SMALL c).After-is_erased-then-length-le-SMALL c.if-is_erased-3.false in
     let other = ne_eqb _ _ c.if-id.false in
-    record { value = by-fields (goal.at.returns-then-length-le-SMALL c).After-le16-length {head = none} (simp (other, ne_eqb _ _ c.if-length-eq0-2.false, le-leb _ _ c.if-length-le-SMALL.true, filled, if-true, if-false, when_false)); result_bound = omega arith }
+    record { form = by-fields (goal.at.returns-then-length-le-SMALL c).After-le16-length {head = none} (simp (other, ne_eqb _ _ c.if-length-eq0-2.false, le-leb _ _ c.if-length-le-SMALL.true, filled, if-true, if-false, when_false)); length_fits = omega arith }
 
 pub returns-then-offset-data_end : goal.returns-then-offset-data_end
 unfolding body_of
 returns-then-offset-data_end c =
     let placed = sym c.le32-offset.ensures ∙ c.if-offset-data_end.true in
-    record { value = by-fields (goal.at.returns-then-offset-data_end c).After-le16-length (kind-form _ _ _ _ (is-long-value c.if-id.false c.if-length-le-SMALL.false placed)); result_bound = omega arith }
+    record { form = by-fields (goal.at.returns-then-offset-data_end c).After-le16-length (kind-form _ _ _ _ (is-long-value c.if-id.false c.if-length-le-SMALL.false placed)); length_fits = omega arith }
 
 pub returns : goal.returns
 unfolding body_of form_of
 returns c =
     let other = ne_eqb _ _ c.if-id.false in
     let elsewhere = ne_eqb _ _ (λ e. c.if-offset-data_end.false (c.le32-offset.ensures ∙ e)) in
-    record { value = by-fields (goal.at.returns c).After-le16-length {head = none} (simp (other, ne_eqb _ _ c.if-length-eq0-2.false, lt-leb _ _ c.if-length-le-SMALL.false, elsewhere, if-false, when_false)); result_bound = omega arith }
+    record { form = by-fields (goal.at.returns c).After-le16-length {head = none} (simp (other, ne_eqb _ _ c.if-length-eq0-2.false, lt-leb _ _ c.if-length-le-SMALL.false, elsewhere, if-false, when_false)); length_fits = omega arith }

@@ -22,7 +22,7 @@ which-requires-then-is_one-2 c = sym c.is_one-2.ensures ∙ c.if-is_one-2.true
 
 pub state_with-requires : goal.state_with-requires
 state_with-requires c =
-    record { backs = c.requires.backs; w_bound = c.requires.by_index _ c.which-then-is_one-2.ensures }
+    record { backs = c.requires.backs; w_bound = c.requires.working_inside _ c.which-then-is_one-2.ensures }
 
 pub returns-then-is_one-2 : goal.returns-then-is_one-2
 returns-then-is_one-2 c = rw c.which-then-is_one-2.ensures c.state_with.ensures

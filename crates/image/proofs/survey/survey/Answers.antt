@@ -81,7 +81,7 @@ loop-s-preserved c =
 
 pub decide-requires : goal.decide-requires
 decide-requires c =
-    record { backs = c.requires; by_index = λ w e. omega (arith, surveyed-one _ c.loop-s.invariant (all_read (goal.at.decide-requires c).After-loop-s) w e, views-count c.args.g c.args.image.now) }
+    record { backs = c.requires; working_inside = λ w e. omega (arith, surveyed-one _ c.loop-s.invariant (all_read (goal.at.decide-requires c).After-loop-s) w e, views-count c.args.g c.args.image.now) }
 
 pub returns : goal.returns
 returns c = c.decide.ensures ∙ ap status_as (surveyed-state _ c.loop-s.invariant (all_read (goal.at.returns c).After-loop-s))

@@ -28,12 +28,12 @@ pub needs-requires : goal.needs-requires
 needs-requires c =
     let inside = looked-inside c.args.g c.args.image.now c.requires.backs (sector_no c.args.w) c.requires.w_bound c.loop-t.invariant (more (goal.at.needs-requires c).In-loop-t) c.next_sector-s-in-loop-t.ensures in
     let other = looked-other c.args.g c.args.image.now c.requires.backs (sector_no c.args.w) c.requires.w_bound c.loop-t.invariant (more (goal.at.needs-requires c).In-loop-t) c.next_sector-s-in-loop-t.ensures in
-    record { backs = c.requires.backs; counts = c.requires.counts; w_bound = c.requires.w_bound; s_bound = inside; fact = other }
+    record { backs = c.requires.backs; counts = c.requires.counts; w_bound = c.requires.w_bound; s_bound = inside; not_spare = other }
 
 pub overflow_add-needs : goal.overflow_add-needs
 overflow_add-needs c =
     let few = looked-few c.args.g c.args.image.now c.requires.backs (sector_no c.args.w) c.requires.w_bound c.loop-t.invariant (more (goal.at.overflow_add-needs c).In-loop-t) c.next_sector-s-in-loop-t.ensures in
-    omega (arith, c.needs.ensures, few, c.requires.backs.sound.blocks_to, c.requires.need_le_max_sector_size)
+    omega (arith, c.needs.ensures, few, c.requires.backs.sound.blocks_to, c.requires.need_bound)
 
 pub returns-then-needs-need : goal.returns-then-needs-need
 returns-then-needs-need c =

@@ -32,8 +32,8 @@ overflow_cast-count c =
 
 pub renewed_within-within-requires : goal.renewed_within-within-requires
 renewed_within-within-requires c =
-    record { backs = c.requires.backs; s_bound = c.requires.s_bound; count_value = counted (goal.at.renewed_within-within-requires c).After-number-number; indexes = index-none (entries_at c.args.g c.args.image.now c.args.s) _ _ refl refl }
+    record { backs = c.requires.backs; s_bound = c.requires.s_bound; counted = counted (goal.at.renewed_within-within-requires c).After-number-number; indexes = index-none (entries_at c.args.g c.args.image.now c.args.s) _ _ refl refl }
 
 pub renewed_by_newer-requires : goal.renewed_by_newer-requires
 renewed_by_newer-requires c =
-    record { backs = c.requires.backs; counts = c.requires.counts; w_bound = c.requires.w_bound; s_bound = c.requires.s_bound; fact = c.requires.fact; count_value = counted (goal.at.renewed_by_newer-requires c).After-number-number; indexes = c.renewed_within-within.ensures.indexed; within_value = c.renewed_within-within.ensures.marked }
+    record { backs = c.requires.backs; counts = c.requires.counts; w_bound = c.requires.w_bound; s_bound = c.requires.s_bound; not_spare = c.requires.not_spare; counted = counted (goal.at.renewed_by_newer-requires c).After-number-number; indexes = c.renewed_within-within.ensures.indexed; within_marked = c.renewed_within-within.ensures.marked }

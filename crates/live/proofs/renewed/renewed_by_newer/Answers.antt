@@ -50,9 +50,9 @@ other c same = c.loop-g-test.true (c.number.ensures ∙ same)
 pub loop-g-init : goal.loop-g-init
 loop-g-init c =
     let views = views-count c.args.g c.args.image.now in
-    let apart : sector_no c.args.s ≡ c.number-spare.result → ⊥ = λ same. c.requires.fact (same ∙ spare-is (goal.at.loop-g-init c).After-number-spare) in
+    let apart : sector_no c.args.s ≡ c.number-spare.result → ⊥ = λ same. c.requires.not_spare (same ∙ spare-is (goal.at.loop-g-init c).After-number-spare) in
     let start = passing-start {views = views_in c.args.g c.args.image.now} (spare-inside (goal.at.loop-g-init c).After-number-spare) (omega (arith, views, c.requires.s_bound)) apart (c.next_sector-t.ensures ∙ ap (λ (n : ℕ). next n (sector_no c.args.s)) (sym views)) in
-    ([], start, c.requires.within_value)
+    ([], start, c.requires.within_marked)
 
 pub offset_bounds-counts-number : goal.offset_bounds-counts-number
 offset_bounds-counts-number c = omega (arith, low (goal.at.offset_bounds-counts-number c).After-number-number)
@@ -66,7 +66,7 @@ overflow_cast-entries c =
 
 pub renewed_by_sector-renewed-requires : goal.renewed_by_sector-renewed-requires
 renewed_by_sector-renewed-requires c =
-    record { backs = c.requires.backs; s_bound = c.requires.s_bound; count_value = c.requires.count_value; indexes = c.requires.indexes; t_bound = inside (goal.at.renewed_by_sector-renewed-requires c).At-loop-g; entries_value = counted (goal.at.renewed_by_sector-renewed-requires c).After-number-number }
+    record { backs = c.requires.backs; s_bound = c.requires.s_bound; counted = c.requires.counted; indexes = c.requires.indexes; t_bound = inside (goal.at.renewed_by_sector-renewed-requires c).At-loop-g; t_counted = counted (goal.at.renewed_by_sector-renewed-requires c).After-number-number }
 
 pub next_sector-t-requires-in-loop-g : goal.next_sector-t-requires-in-loop-g
 next_sector-t-requires-in-loop-g c = inside (goal.at.next_sector-t-requires-in-loop-g c).At-loop-g

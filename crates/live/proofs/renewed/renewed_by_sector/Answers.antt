@@ -19,7 +19,7 @@ use Rattle.live.proofs.renewed.renewed_by_sector.Goals.{in-At, in_default, In-lo
 
 -- in a turn entry n is one of sector t
 inside : (c : In-loop-n) → c.loop-n.n < length (entries_at c.args.g c.args.image.now c.args.t)
-inside c = omega (arith, c.loop-n-test.true, c.requires.entries_value)
+inside c = omega (arith, c.loop-n-test.true, c.requires.t_counted)
 
 pub loop-n-init : goal.loop-n-init
 loop-n-init c =
@@ -33,7 +33,7 @@ renewed_entry-hit-requires c =
 pub add-renewed-requires : goal.add-renewed-requires
 add-renewed-requires c =
     let few = entries-few c.args.g c.args.image.now (sector_no c.args.s) c.requires.s_bound c.requires.backs.sound in
-    omega (arith, hit-below _ _ _ (sym c.renewed_entry-hit.ensures ∙ c.in-At.is), few, c.requires.count_value)
+    omega (arith, hit-below _ _ _ (sym c.renewed_entry-hit.ensures ∙ c.in-At.is), few, c.requires.counted)
 
 pub overflow_add-n : goal.overflow_add-n
 overflow_add-n c =
@@ -47,7 +47,7 @@ loop-n-preserved c =
     let told = sym c.renewed_entry-hit.ensures in (
       omega (arith, c.loop-n-test.true),
       (λ later same.
-          newer-next (entries_at c.args.g c.args.image.now c.args.s) c.requires.count_value later (entries_at c.args.g c.args.image.now c.args.t) c.loop-n.n
+          newer-next (entries_at c.args.g c.args.image.now c.args.s) c.requires.counted later (entries_at c.args.g c.args.image.now c.args.t) c.loop-n.n
           (inside (goal.at.loop-n-preserved c).In-loop-n) (c.loop-n.invariant.1 later same)
           (elim c.match-hit.branch [
             | in-At w ↦ ap marks_of w.renewed-is ∙ w.add-renewed.ensures ∙ mark-found _ _ (told ∙ w.in-At.is)
@@ -59,5 +59,5 @@ pub returns : goal.returns
 returns c = λ later same.
     let es : List Entry = entries_at c.args.g c.args.image.now c.args.s in
     let ts : List Entry = entries_at c.args.g c.args.image.now c.args.t in
-    let past : length ts ≤ c.loop-n.n = omega (arith, c.loop-n-test.false, c.requires.entries_value) in
+    let past : length ts ≤ c.loop-n.n = omega (arith, c.loop-n-test.false, c.requires.t_counted) in
     c.loop-n.invariant.1 later same ∙ ap (λ (l : List Entry). padded max_marks (renewed_flags es (later ++ l))) (take_all c.loop-n.n ts past)

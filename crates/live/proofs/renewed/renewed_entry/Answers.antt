@@ -34,7 +34,7 @@ returns-then-id c =
     (id-read (goal.at.returns-then-id c).After-id_in-id ∙ c.if-id.true)))
 
 pub find-requires : goal.find-requires
-find-requires c = record { backs = c.requires.backs; s_bound = c.requires.s_bound; indexes = c.requires.indexes; fact = c.if-id.false }
+find-requires c = record { backs = c.requires.backs; s_bound = c.requires.s_bound; indexes = c.requires.indexes; legal_id = c.if-id.false }
 
 pub returns : goal.returns
 returns c =

@@ -19,7 +19,7 @@ use Rattle.live.proofs.renewed.renewed_within.Goals.{in-At, in_default, In-loop-
 
 -- in a turn entry n is one of the sector's, and has a mark
 inside : (c : In-loop-n) → c.loop-n.n < length (entries_at c.args.g c.args.image.now c.args.s)
-inside c = omega (arith, c.loop-n-test.true, c.requires.count_value)
+inside c = omega (arith, c.loop-n-test.true, c.requires.counted)
 
 few : (c : In-loop-n) → length (entries_at c.args.g c.args.image.now c.args.s) < max_marks
 few c =
@@ -72,4 +72,4 @@ pub returns : goal.returns
 returns c =
     let all : c.loop-n.n ≡ c.args.count = omega (arith, c.loop-n-test.false, c.loop-n.invariant.0) in
     let es : List Entry = entries_at c.args.g c.args.image.now c.args.s in
-    let past : length es ≤ c.loop-n.n = omega (arith, c.requires.count_value) in record { indexed = rw all at c.loop-n.invariant.1; marked = c.loop-n.invariant.2 ∙ ap (λ (l : List Entry). padded max_marks (renewed_flags l [])) (take_all c.loop-n.n es past) }
+    let past : length es ≤ c.loop-n.n = omega (arith, c.requires.counted) in record { indexed = rw all at c.loop-n.invariant.1; marked = c.loop-n.invariant.2 ∙ ap (λ (l : List Entry). padded max_marks (renewed_flags l [])) (take_all c.loop-n.n es past) }

@@ -42,7 +42,7 @@ apart k = next-ne (sectors_of k.args.g) (sector_no k.args.active.sector) k.requi
 
 -- in a turn entry n is one of the sector's, and its mark is the flag
 here : (c : In-loop-n) → c.loop-n.n < length (view_at (views_in c.args.g c.args.image.now) (next (sectors_of c.args.g) (sector_no c.args.active.sector))).entries
-here c = omega (arith, c.loop-n-test.true, c.requires.count_value)
+here c = omega (arith, c.loop-n-test.true, c.requires.counted)
 
 marked : (c : In-loop-n) → c.loop-n.n < max_marks
 marked c =
@@ -52,7 +52,7 @@ flag : (c : After-has) → get_or (live_flags_in (sector_no c.args.active.sector
 flag c =
     sym
     (c.has.ensures
-    ∙ ap (λ (l : List Bool). get_or l c.loop-n.n false) c.requires.live_value
+    ∙ ap (λ (l : List Bool). get_or l c.loop-n.n false) c.requires.live_marked
     ∙ padded-at max_marks _ c.loop-n.n (marked c.before))
 
 -- what is copied goes on in the same sector
@@ -69,7 +69,7 @@ loop-n-init c =
     let whole = image-of-bytes (blocks_of c.args.g) (sectors_of c.args.g) c.args.image.now typed c.requires.backs.sized in (
       omega arith,
       copying-none c.args.g (next (sectors_of c.args.g) (sector_no c.args.active.sector)) (sector_no c.args.active.sector) c.args.image.now c.args.budget c.requires.backs whole (oldest-inside (goal.at.loop-n-init c).Start) c.requires.consistent
-          c.requires.sector_value c.requires.carries.told,
+          c.requires.empty c.requires.carries.told,
     )
 
 pub next_sector-from-requires : goal.next_sector-from-requires
@@ -84,7 +84,7 @@ append_copy-copied-requires c =
     let i = c.loop-n.invariant.1 in
     let carried = carries-at c.args.g c.loop-n.image (sector_no c.args.active.sector) c.requires.carries.inside i.told in
     let same = sym (from_is (goal.at.append_copy-copied-requires c).After-has) in
-    let l = c.loop-n in record { backs = i.backs; from_bound = omega (arith, from_is (goal.at.append_copy-copied-requires c).After-has, oldest-inside (goal.at.append_copy-copied-requires c).Start); fact = (λ e. apart (goal.at.append_copy-copied-requires c).Start (same ∙ e ∙ to_is (goal.at.append_copy-copied-requires c).After-has)); consistent = i.consistent; n_in_bounds = subst (λ (s : ℕ). l.n < length (view_at (views_in c.args.g l.image) s).entries) same (still-here c.args.g (next (sectors_of c.args.g) (sector_no c.args.active.sector)) (sector_no c.args.active.sector) c.args.image.now c.args.budget i (here (goal.at.append_copy-copied-requires c).In-loop-n) (oldest-inside (goal.at.append_copy-copied-requires c).Start) c.requires.carries.inside (apart (goal.at.append_copy-copied-requires c).Start) live); n_value = subst (λ (s : ℕ). is_value (entry_in c.args.g l.image s l.n).head ≡ true) same (live-valued c.args.g (next (sectors_of c.args.g) (sector_no c.args.active.sector)) (sector_no c.args.active.sector) c.args.image.now c.args.budget i (here (goal.at.append_copy-copied-requires c).In-loop-n) (oldest-inside (goal.at.append_copy-copied-requires c).Start) c.requires.carries.inside (apart (goal.at.append_copy-copied-requires c).Start) live); carries = carried; n_value_2 = subst (λ (s : ℕ). is_within (blocks_of c.args.g) (scan_of l.filled.scan) (entry_in c.args.g l.image s l.n).head ≡ true) same (live-within c.args.g (next (sectors_of c.args.g) (sector_no c.args.active.sector)) (sector_no c.args.active.sector) c.args.image.now c.args.budget i (here (goal.at.append_copy-copied-requires c).In-loop-n) (oldest-inside (goal.at.append_copy-copied-requires c).Start) c.requires.carries.inside (apart (goal.at.append_copy-copied-requires c).Start) live) }
+    let l = c.loop-n in record { backs = i.backs; from_bound = omega (arith, from_is (goal.at.append_copy-copied-requires c).After-has, oldest-inside (goal.at.append_copy-copied-requires c).Start); apart = (λ e. apart (goal.at.append_copy-copied-requires c).Start (same ∙ e ∙ to_is (goal.at.append_copy-copied-requires c).After-has)); consistent = i.consistent; n_in_bounds = subst (λ (s : ℕ). l.n < length (view_at (views_in c.args.g l.image) s).entries) same (still-here c.args.g (next (sectors_of c.args.g) (sector_no c.args.active.sector)) (sector_no c.args.active.sector) c.args.image.now c.args.budget i (here (goal.at.append_copy-copied-requires c).In-loop-n) (oldest-inside (goal.at.append_copy-copied-requires c).Start) c.requires.carries.inside (apart (goal.at.append_copy-copied-requires c).Start) live); valued = subst (λ (s : ℕ). is_value (entry_in c.args.g l.image s l.n).head ≡ true) same (live-valued c.args.g (next (sectors_of c.args.g) (sector_no c.args.active.sector)) (sector_no c.args.active.sector) c.args.image.now c.args.budget i (here (goal.at.append_copy-copied-requires c).In-loop-n) (oldest-inside (goal.at.append_copy-copied-requires c).Start) c.requires.carries.inside (apart (goal.at.append_copy-copied-requires c).Start) live); carries = carried; fits = subst (λ (s : ℕ). is_within (blocks_of c.args.g) (scan_of l.filled.scan) (entry_in c.args.g l.image s l.n).head ≡ true) same (live-within c.args.g (next (sectors_of c.args.g) (sector_no c.args.active.sector)) (sector_no c.args.active.sector) c.args.image.now c.args.budget i (here (goal.at.append_copy-copied-requires c).In-loop-n) (oldest-inside (goal.at.append_copy-copied-requires c).Start) c.requires.carries.inside (apart (goal.at.append_copy-copied-requires c).Start) live) }
 
 -- what the copy of entry n did, by the entry that it was asked for
 module _ (h : After-has) (image : List ℕ) where
@@ -145,4 +145,4 @@ shape_of-image c = c.loop-n.invariant.1.backs.sized ∙ sym c.requires.backs.siz
 pub returns : goal.returns
 returns c =
     let i = c.loop-n.invariant.1 in
-    let past : length (view_at (views_in c.args.g c.args.image.now) (next (sectors_of c.args.g) (sector_no c.args.active.sector))).entries ≤ c.loop-n.n = omega (arith, c.loop-n-test.false, c.requires.count_value) in record { did = copying-end c.args.g (next (sectors_of c.args.g) (sector_no c.args.active.sector)) (sector_no c.args.active.sector) c.args.image.now c.args.budget i past; gathered = (λ whole. gathered c.args.g (next (sectors_of c.args.g) (sector_no c.args.active.sector)) (sector_no c.args.active.sector) c.args.image.now c.args.budget i) }
+    let past : length (view_at (views_in c.args.g c.args.image.now) (next (sectors_of c.args.g) (sector_no c.args.active.sector))).entries ≤ c.loop-n.n = omega (arith, c.loop-n-test.false, c.requires.counted) in record { did = copying-end c.args.g (next (sectors_of c.args.g) (sector_no c.args.active.sector)) (sector_no c.args.active.sector) c.args.image.now c.args.budget i past; gathered = (λ whole. gathered c.args.g (next (sectors_of c.args.g) (sector_no c.args.active.sector)) (sector_no c.args.active.sector) c.args.image.now c.args.budget i) }

@@ -22,7 +22,7 @@ use Rattle.turn.proofs.mount.mount.Goals.{In-MidTurn, In-NotReopened, Start}
 
 -- the state by the status
 state-by : (k : Start) {s : Status} → k.args.status ≡ s → state_of (views_in k.args.g k.args.image.now) ≡ status_of s
-state-by k is = sym k.requires.status_value ∙ ap status_of is
+state-by k is = sym k.requires.surveyed ∙ ap status_of is
 
 -- its sector is one of the image
 working-inside : (c : In-NotReopened) → sector_no c.in-NotReopened.w < sectors_of c.args.g

@@ -46,14 +46,14 @@ entry_counts-counts-requires c = did-backs c.reopen-left.ensures c.requires.back
 
 pub unused-empty-requires : goal.unused-empty-requires
 unused-empty-requires c =
-    record { backs = did-backs c.reopen-left.ensures c.requires.backs; s_bound = c.requires.u_bound; s_value = emptied (goal.at.unused-empty-requires c).After-reopen-left c.if-left.false }
+    record { backs = did-backs c.reopen-left.ensures c.requires.backs; s_bound = c.requires.u_bound; empty = emptied (goal.at.unused-empty-requires c).After-reopen-left c.if-left.false }
 
 pub finish_turn-turned-requires : goal.finish_turn-turned-requires
 finish_turn-turned-requires c =
     let u : ℕ = sector_no c.args.u in
     let here : sector_no c.unused-empty.result.sector ≡ u = ap (λ (x : Active). sector_no x.sector) c.unused-empty.ensures in
     let empty = ap (λ (s : ℕ). (view_at (views_in c.args.g c.reopen-left.new.image) s).entries) here ∙ emptied (goal.at.finish_turn-turned-requires c).After-reopen-left c.if-left.false in
-    record { backs = did-backs c.reopen-left.ensures c.requires.backs; counts = c.entry_counts-counts.ensures; carries = carries-at c.args.g c.reopen-left.new.image u c.requires.u_bound c.unused-empty.ensures; sector_value = empty; consistent = did-consistent c.reopen-left.ensures c.requires.consistent }
+    record { backs = did-backs c.reopen-left.ensures c.requires.backs; counts = c.entry_counts-counts.ensures; carries = carries-at c.args.g c.reopen-left.new.image u c.requires.u_bound c.unused-empty.ensures; empty = empty; consistent = did-consistent c.reopen-left.ensures c.requires.consistent }
 
 pub returns : goal.returns
 returns c =
