@@ -1,2 +1,3 @@
--- What the commands of the driver are due.
+-- What the commands of the driver are due, and counts of bytes.
 pub mod Due
+pub mod Counts

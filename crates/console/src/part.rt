@@ -1,6 +1,6 @@
 // Counts of a slice's bytes, as a part of it takes them.
 ghost use Rattle.std.specs.Prelude.{◌≡◌, ◌++◌, min, length, take, drop};
-ghost use Rattle.io.specs.Counts.{IsPrefixLen};
+ghost use Rattle.console.specs.Counts.{IsPrefixLen};
 
 // A number of the slice's bytes: the one given, or all of them where it is larger.
 pub fn least(size: usize, bytes: &[u8]) -> usize
@@ -18,6 +18,6 @@ pub fn copied(from: &[u8], to: &mut [u8]) -> usize
     ensures copied { to.new ≡ take result from.now ++ drop result to.old }
 {
     let count = least(to.len(), from);
-    bytes::copy(&from[..count], to);
+    to[..count].copy_from_slice(&from[..count]);
     count
 }

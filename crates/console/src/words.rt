@@ -1,101 +1,92 @@
 // The answers in words. What is printed is handed on.
-ghost use Rattle.std.specs.Prelude.{◌≡◌, length};
-ghost use Rattle.io.specs.Counts.{IsPrefixLen};
+ghost use Rattle.std.specs.Prelude.{◌≡◌, length, IfOk};
+ghost use Rattle.console.specs.Counts.{IsPrefixLen};
 
 use crate::part;
 use answer::{Answer, Refusal, Reply};
 use budget::{Kind, Last};
-
-const STDOUT: i32 = 1;
+use std::io;
 
 // Hex digits of the largest buffer of a read, 65,536 bytes.
 const DIGITS: usize = 131072;
 
-// The paper's name of a refusal.
-fn print_name(refusal: Refusal) {
+// A refusal's name.
+fn print_name(rt: &impl Print, refusal: Refusal) -> io::Result<()> {
     match refusal {
-        Refusal::Geometry => io::write_all(STDOUT, b"geometry"),
-        Refusal::NoStore => io::write_all(STDOUT, b"no store"),
-        Refusal::Unfinished => io::write_all(STDOUT, b"unfinished"),
-        Refusal::Reserved => io::write_all(STDOUT, b"reserved"),
-        Refusal::Empty => io::write_all(STDOUT, b"empty"),
-        Refusal::TooLong => io::write_all(STDOUT, b"too long"),
-        Refusal::NoRoom => io::write_all(STDOUT, b"no room"),
-        Refusal::Absent => io::write_all(STDOUT, b"absent"),
-        Refusal::BadData => io::write_all(STDOUT, b"bad data"),
-        Refusal::ShortBuffer(_) => io::write_all(STDOUT, b"short buffer"),
-    };
+        Refusal::Geometry => print!(rt; "geometry"),
+        Refusal::NoStore => print!(rt; "no store"),
+        Refusal::Unfinished => print!(rt; "unfinished"),
+        Refusal::Reserved => print!(rt; "reserved"),
+        Refusal::Empty => print!(rt; "empty"),
+        Refusal::TooLong => print!(rt; "too long"),
+        Refusal::NoRoom => print!(rt; "no room"),
+        Refusal::Absent => print!(rt; "absent"),
+        Refusal::BadData => print!(rt; "bad data"),
+        Refusal::ShortBuffer(_) => print!(rt; "short buffer"),
+    }
 }
 
 // "refused NUMBER NAME", and no line end.
-fn print_refusal(number: u32, refusal: Refusal) {
-    io::write_all(STDOUT, b"refused ");
-    io::print_decimal(STDOUT, number as u64);
-    io::write_all(STDOUT, b" ");
-    print_name(refusal);
+fn print_refusal(rt: &impl Print, number: u32, refusal: Refusal) -> io::Result<()> {
+    print!(rt; "refused {number} ")?;
+    print_name(rt, refusal)
 }
 
-fn print_stores(stores: u32, turns: u32) {
-    io::write_all(STDOUT, b"stores ");
-    io::print_decimal(STDOUT, stores as u64);
-    io::write_all(STDOUT, b" turns ");
-    io::print_decimal(STDOUT, turns as u64);
+fn print_stores(rt: &impl Print, stores: u32, turns: u32) -> io::Result<()> {
+    print!(rt; "stores {stores} turns {turns}")
 }
 
 // The first line of what a call that stores answered.
-fn print_answer(answer: Answer) {
+fn print_answer(rt: &impl Print, answer: Answer) -> io::Result<()> {
     match answer {
         Answer::Done(stores, turns) => {
-            print_stores(stores, turns);
+            print_stores(rt, stores, turns)?;
         }
         Answer::Cut(stores) => {
-            io::write_all(STDOUT, b"cut ");
-            print_stores(stores, 0);
+            print!(rt; "cut ")?;
+            print_stores(rt, stores, 0)?;
         }
         Answer::Refused(refusal) => {
-            print_refusal(answer.number(), refusal);
+            print_refusal(rt, answer.number(), refusal)?;
         }
     }
-    io::write_all(STDOUT, b"\n");
+    println!(rt)
 }
 
-pub fn told(answer: Answer) -> Answer
-    ensures { result ≡ answer }
+pub fn told(rt: &impl Print, answer: Answer) -> io::Result<Answer>
+    ensures { IfOk result (λ told. told ≡ answer) }
 {
-    print_answer(answer);
-    answer
+    print_answer(rt, answer)?;
+    Ok(answer)
 }
 
-fn print_kind(kind: Kind) {
+fn print_kind(rt: &impl Print, kind: Kind) -> io::Result<()> {
     match kind {
-        Kind::Lead => io::write_all(STDOUT, b"lead"),
-        Kind::Close => io::write_all(STDOUT, b"close"),
-        Kind::Done => io::write_all(STDOUT, b"done"),
-        Kind::Value => io::write_all(STDOUT, b"value"),
-        Kind::Deletion => io::write_all(STDOUT, b"deletion"),
-        Kind::Data => io::write_all(STDOUT, b"data"),
-        Kind::Blank => io::write_all(STDOUT, b"blank"),
-    };
+        Kind::Lead => print!(rt; "lead"),
+        Kind::Close => print!(rt; "close"),
+        Kind::Done => print!(rt; "done"),
+        Kind::Value => print!(rt; "value"),
+        Kind::Deletion => print!(rt; "deletion"),
+        Kind::Data => print!(rt; "data"),
+        Kind::Blank => print!(rt; "blank"),
+    }
 }
 
 // "SECTOR BLOCK KIND"
-fn print_store(last: Last) {
+fn print_store(rt: &impl Print, last: Last) -> io::Result<()> {
     let Last::Store(s, b, kind) = last else {
-        return;
+        return Ok(());
     };
-    io::print_decimal(STDOUT, s.number() as u64);
-    io::write_all(STDOUT, b" ");
-    io::print_decimal(STDOUT, b.number() as u64);
-    io::write_all(STDOUT, b" ");
-    print_kind(kind);
-    io::write_all(STDOUT, b"\n");
+    print!(rt; "{} {} ", s.number(), b.number())?;
+    print_kind(rt, kind)?;
+    println!(rt)
 }
 
-pub fn traced(last: Last) -> Last
-    ensures { result ≡ last }
+pub fn traced(rt: &impl Print, last: Last) -> io::Result<Last>
+    ensures { IfOk result (λ traced. traced ≡ last) }
 {
-    print_store(last);
-    last
+    print_store(rt, last)?;
+    Ok(last)
 }
 
 // A hex digit.
@@ -117,50 +108,44 @@ fn spelled(bytes: &[u8], text: &mut [u8]) -> usize
     ensures { IsPrefixLen result text.new }
 {
     let mut end = 0;
-    let mut i = 0;
-    while i < bytes.len() {
+    for byte in bytes {
         if text.len() - end < 2 {
             break;
         }
-        let byte = bytes[i];
-        text[end] = digit(byte / 16);
-        text[end + 1] = digit(byte);
+        text[end] = digit(*byte / 16);
+        text[end + 1] = digit(*byte);
         end += 2;
-        i += 1;
     }
     end
 }
 
-fn print_bytes(bytes: &[u8]) {
+fn print_bytes(rt: &impl Print, bytes: &[u8]) -> io::Result<()> {
     let mut text = digits();
     let end = spelled(bytes, &mut text);
-    io::write_all(STDOUT, &text[..end]);
+    rt.write_all(&text[..end])
 }
 
 // What a read answered. The buffer begins with the value, if there is one.
-fn print_reply(reply: Reply, buffer: &[u8]) {
+fn print_reply(rt: &impl Print, reply: Reply, buffer: &[u8]) -> io::Result<()> {
     match reply {
         Reply::Value(length) => {
-            io::write_all(STDOUT, b"value ");
-            io::print_decimal(STDOUT, length as u64);
-            io::write_all(STDOUT, b" ");
+            print!(rt; "value {length} ")?;
             let size = part::least(length, buffer);
-            print_bytes(&buffer[..size]);
+            print_bytes(rt, &buffer[..size])?;
         }
         Reply::Refused(refusal) => {
-            print_refusal(reply.number(), refusal);
+            print_refusal(rt, reply.number(), refusal)?;
             if let Refusal::ShortBuffer(length) = refusal {
-                io::write_all(STDOUT, b" ");
-                io::print_decimal(STDOUT, length as u64);
+                print!(rt; " {length}")?;
             }
         }
     }
-    io::write_all(STDOUT, b"\n");
+    println!(rt)
 }
 
-pub fn replied(reply: Reply, buffer: &[u8]) -> Reply
-    ensures { result ≡ reply }
+pub fn replied(rt: &impl Print, reply: Reply, buffer: &[u8]) -> io::Result<Reply>
+    ensures { IfOk result (λ replied. replied ≡ reply) }
 {
-    print_reply(reply, buffer);
-    reply
+    print_reply(rt, reply, buffer)?;
+    Ok(reply)
 }

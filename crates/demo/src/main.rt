@@ -1,8 +1,7 @@
 #![tactic(auto)]
 // The demo: a value written, a write cut in the middle, a mount, and the old value still there.
 use console::{Command, words};
-
-const STDOUT: i32 = 1;
+use std::io;
 
 // 2 sectors of 128 bytes, and the ID of the record.
 const SIZE: usize = 128;
@@ -14,64 +13,93 @@ const ID: u32 = 7;
 const ENOUGH: u32 = 4294967295;
 
 // A sentence on a line of its own.
-fn say(sentence: &[u8]) {
-    io::write_all(STDOUT, sentence);
-    io::write_all(STDOUT, b"\n");
+fn say(rt: &impl Print, sentence: &[u8]) -> io::Result<()> {
+    rt.write_all(sentence)?;
+    println!(rt)
 }
 
-fn write(image: &mut [u8], record: &[u8], allowance: u32) {
-    console::run(image, SIZE, COUNT, Command::Write(ID), record, allowance);
+fn write(rt: &impl Print, image: &mut [u8], record: &[u8], allowance: u32) -> io::Result<()> {
+    console::run(
+        rt,
+        image,
+        SIZE,
+        COUNT,
+        Command::Write(ID),
+        record,
+        allowance,
+    )?;
+    Ok(())
 }
 
-fn read(image: &[u8]) {
-    console::show(image, SIZE, COUNT, ID, 8);
+fn read(rt: &impl Print, image: &[u8]) -> io::Result<()> {
+    console::show(rt, image, SIZE, COUNT, ID, 8)?;
+    Ok(())
 }
 
 // The store is made, and the record written until its sector is full.
-fn fill(image: &mut [u8]) {
+fn fill(rt: &impl Print, image: &mut [u8]) -> io::Result<()> {
     say(
+        rt,
         b"A store for one record, in an image of 2 sectors of 128 bytes. A line `SECTOR BLOCK KIND` is one block stored.",
-    );
-    say(b"\n1. Format the image: every block gets its final bytes, the lead of sector 0 last.");
+    )?;
+    say(
+        rt,
+        b"\n1. Format the image: every block gets its final bytes, the lead of sector 0 last.",
+    )?;
     let formatted = console::call(image, SIZE, COUNT, Command::Format, b"", ENOUGH);
     let answer = formatted.answer;
-    words::told(answer);
+    words::told(rt, answer)?;
     say(
+        rt,
         b"\n2. Write the record \"week2431\" under ID 7. The entry itself holds it, so one store does it.",
-    );
-    write(image, b"week2431", ENOUGH);
+    )?;
+    write(rt, image, b"week2431", ENOUGH)?;
     say(
+        rt,
         b"\n3. Write it twice more, as the weeks pass. Nothing is overwritten: each time there is one more entry, and the newest counts.",
-    );
-    write(image, b"week2432", ENOUGH);
-    write(image, b"week2433", ENOUGH);
+    )?;
+    write(rt, image, b"week2432", ENOUGH)?;
+    write(rt, image, b"week2433", ENOUGH)
 }
 
 // A write is cut in the middle of a turn.
-fn fail(image: &mut [u8]) {
+fn fail(rt: &impl Print, image: &mut [u8]) -> io::Result<()> {
     say(
+        rt,
         b"\n4. Sector 0 is full. The next write, of \"week2434\", closes it and moves to sector 1, in 5 stores. The power fails after 2 of them.",
-    );
-    write(image, b"week2434", 2);
-    say(b"\n5. The unit starts again. Until it mounts the store, it reads nothing.");
-    read(image);
+    )?;
+    write(rt, image, b"week2434", 2)?;
+    say(
+        rt,
+        b"\n5. The unit starts again. Until it mounts the store, it reads nothing.",
+    )?;
+    read(rt, image)
 }
 
 // The mount mends it.
-fn mend(image: &mut [u8]) {
-    say(b"\n6. The mount sees the turn that was cut, and makes it anew to its end.");
-    console::run(image, SIZE, COUNT, Command::Mount, b"", ENOUGH);
-    say(b"\n7. The record is still there: the last one whose write was finished, \"week2433\".");
-    read(image);
-    say(b"\n8. Write \"week2434\" again, this time to the end, and read it back.");
-    write(image, b"week2434", ENOUGH);
-    read(image);
+fn mend(rt: &impl Print, image: &mut [u8]) -> io::Result<()> {
+    say(
+        rt,
+        b"\n6. The mount sees the turn that was cut, and makes it anew to its end.",
+    )?;
+    console::run(rt, image, SIZE, COUNT, Command::Mount, b"", ENOUGH)?;
+    say(
+        rt,
+        b"\n7. The record is still there: the last one whose write was finished, \"week2433\".",
+    )?;
+    read(rt, image)?;
+    say(
+        rt,
+        b"\n8. Write \"week2434\" again, this time to the end, and read it back.",
+    )?;
+    write(rt, image, b"week2434", ENOUGH)?;
+    read(rt, image)
 }
 
-fn main() {
+fn main(rt: HostRuntime) -> io::Result<()> {
     let mut space = [0xFF; 256];
     let image: &mut [u8] = &mut space;
-    fill(image);
-    fail(image);
-    mend(image);
+    fill(&rt, image)?;
+    fail(&rt, image)?;
+    mend(&rt, image)
 }

@@ -1,14 +1,18 @@
 #![tactic(auto)]
 // drive IMAGE: runs a script from standard input on the image in a file. The script's first line is the sector size and the
 // number of sectors; each further line is a command.
-ghost use Rattle.std.specs.Prelude.{◌≡◌, ◌≤◌, length};
-ghost use Rattle.io.specs.Counts.{IsPrefixLen};
+ghost use Rattle.std.specs.Prelude.{◌≡◌, ◌≤◌, length, IfOk};
+ghost use Rattle.console.specs.Counts.{IsPrefixLen};
 
 use console::{Command, part};
+use std::env::{Env, FillError};
+use std::fs::{File, OpenOptions};
+use std::io::{ErrorKind, Read, Write};
+use std::rt::Files;
+use std::{io, str};
 
-const STDIN: i32 = 0;
-
-const STDOUT: i32 = 1;
+// Bytes of the longest path.
+const PATH: usize = 4096;
 
 // Bytes of the largest image, of what is read of the script at a time, of the longest line, and of the values that it can hold.
 const LARGEST: usize = 65536;
@@ -28,10 +32,10 @@ const ENOUGH: u32 = 4294967295;
 // The length of a read's buffer where none is given.
 const ROOM: u32 = 65536;
 
-fn error(what: &[u8]) {
-    io::write_all(STDOUT, b"error ");
-    io::write_all(STDOUT, what);
-    io::write_all(STDOUT, b"\n");
+fn error(rt: &impl Print, what: &[u8]) -> io::Result<()> {
+    print!(rt; "error ")?;
+    rt.write_all(what)?;
+    println!(rt)
 }
 
 // ---- lines
@@ -65,26 +69,25 @@ fn line_buffer() -> [u8; LINE]
     [0; LINE]
 }
 
-fn next_byte(chunk: &mut [u8; CHUNK], input: Input) -> Next
+fn next_byte(reader: &mut impl Read, chunk: &mut [u8; CHUNK], input: Input) -> io::Result<Next>
     requires { input.end ≤ 65536 }
-    ensures { result.input.end ≤ 65536 }
+    ensures { IfOk result (λ next. next.input.end ≤ 65536) }
 {
     let at = input.at;
     let end = input.end;
     if at < end {
-        return Next {
+        return Ok(Next {
             is_there: true,
             byte: chunk[at],
             input: Input { at: at + 1, end },
-        };
+        });
     }
-    let got = libc::read(STDIN, chunk);
-    let end = io::count(got, chunk);
-    Next {
+    let end = reader.read(chunk)?;
+    Ok(Next {
         is_there: 0 < end,
         byte: chunk[0],
         input: Input { at: 1, end },
-    }
+    })
 }
 
 // Sets a byte, if there is room for it.
@@ -106,12 +109,17 @@ fn fitting(size: usize, line: &[u8]) -> usize
 }
 
 // Reads a line. A proved loop has to end, so it counts down from a number that no run uses up.
-fn read_line(chunk: &mut [u8; CHUNK], input: Input, line: &mut [u8]) -> Line
+fn read_line(
+    reader: &mut impl Read,
+    chunk: &mut [u8; CHUNK],
+    input: Input,
+    line: &mut [u8],
+) -> io::Result<Line>
     requires { input.end ≤ 65536 }
-    ensures prefix_len { IsPrefixLen result.length line.new }
-    ensures end_bound { result.input.end ≤ 65536 }
+    ensures prefix_len { IfOk result (λ read. IsPrefixLen read.length line.new) }
+    ensures end_bound { IfOk result (λ read. read.input.end ≤ 65536) }
 {
-    let mut next = next_byte(chunk, input);
+    let mut next = next_byte(reader, chunk, input)?;
     let is_there = next.is_there;
     let mut size = 0;
     let mut turns = u64::MAX;
@@ -120,15 +128,15 @@ fn read_line(chunk: &mut [u8; CHUNK], input: Input, line: &mut [u8]) -> Line
         put(line, size, next.byte);
         size += 1;
         let rest = next.input;
-        next = next_byte(chunk, rest);
+        next = next_byte(reader, chunk, rest)?;
     }
     let input = next.input;
     let length = fitting(size, line);
-    Line {
+    Ok(Line {
         is_there,
         length,
         input,
-    }
+    })
 }
 
 // ---- words and numbers
@@ -137,25 +145,21 @@ fn read_line(chunk: &mut [u8; CHUNK], input: Input, line: &mut [u8]) -> Line
 fn space(text: &[u8]) -> usize
     ensures { IsPrefixLen result text.now }
 {
-    let mut i = 0;
-    while i < text.len() {
-        if text[i] == b' ' {
+    for (i, byte) in text.iter().enumerate() {
+        if *byte == b' ' {
             return i;
         }
-        i += 1;
     }
-    i
+    text.len()
 }
 
 // How many spaces there are.
 fn spaces(text: &[u8]) -> usize {
     let mut count = 0;
-    let mut i = 0;
-    while i < text.len() {
-        if text[i] == b' ' {
+    for byte in text {
+        if *byte == b' ' {
             count += 1;
         }
-        i += 1;
     }
     count
 }
@@ -205,9 +209,8 @@ fn number_of(text: &[u8]) -> Number {
         return Number::Bad;
     }
     let mut total = 0;
-    let mut i = 0;
-    while i < text.len() {
-        let digit = wide(worth(text[i]));
+    for byte in text {
+        let digit = wide(worth(*byte));
         if 9 < digit {
             return Number::Bad;
         }
@@ -215,7 +218,6 @@ fn number_of(text: &[u8]) -> Number {
         if MOST < total {
             return Number::Bad;
         }
-        i += 1;
     }
     Number::Is(total as u32)
 }
@@ -242,8 +244,7 @@ fn pairs(text: &[u8], value: &mut [u8]) -> Hex {
     if count == 0 || text.len() % 2 == 1 {
         return Hex::Bad;
     }
-    let mut i = 0;
-    while i < count {
+    for i in 0..count {
         let high = worth(text[2 * i]);
         let low = worth(text[2 * i + 1]);
         if high == 16 {
@@ -253,17 +254,15 @@ fn pairs(text: &[u8], value: &mut [u8]) -> Hex {
             return Hex::Bad;
         }
         put(value, i, high * 16 + low);
-        i += 1;
     }
     Hex::Length(count)
 }
 
 // Hex digits, or `-` for no bytes.
 fn hex_of(text: &[u8], value: &mut [u8]) -> Hex {
-    if check::same(text, b"-") {
-        Hex::Length(0)
-    } else {
-        pairs(text, value)
+    match text {
+        b"-" => Hex::Length(0),
+        _ => pairs(text, value),
     }
 }
 
@@ -344,18 +343,13 @@ fn task_of(line: &[u8], value: &mut [u8]) -> Task {
     let words = spaces(line);
     let name = word(line);
     let text = rest(line);
-    if check::same(name, b"format") {
-        plain_task(Command::Format, words, text)
-    } else if check::same(name, b"mount") {
-        plain_task(Command::Mount, words, text)
-    } else if check::same(name, b"write") {
-        write_task(words, text, value)
-    } else if check::same(name, b"delete") {
-        delete_task(words, text)
-    } else if check::same(name, b"read") {
-        read_task(words, text)
-    } else {
-        Task::Bad
+    match name {
+        b"format" => plain_task(Command::Format, words, text),
+        b"mount" => plain_task(Command::Mount, words, text),
+        b"write" => write_task(words, text, value),
+        b"delete" => delete_task(words, text),
+        b"read" => read_task(words, text),
+        _ => Task::Bad,
     }
 }
 
@@ -387,59 +381,96 @@ enum Loaded {
 }
 
 // An image that is not there yet has as many bytes as its sizes say.
-fn new_image(size: usize, count: usize) -> Loaded {
+fn new_image(rt: &impl Print, size: usize, count: usize) -> io::Result<Loaded> {
     if count == 0 {
-        return Loaded::Length(0);
+        return Ok(Loaded::Length(0));
     }
     if LARGEST / count < size {
-        error(b"sizes too large for a new image");
-        return Loaded::Failed;
+        error(rt, b"sizes too large for a new image")?;
+        return Ok(Loaded::Failed);
     }
-    Loaded::Length(size * count)
+    Ok(Loaded::Length(size * count))
+}
+
+// A path's text. The library opens a file by a name in UTF-8, and by no other.
+fn path_text(path: &[u8]) -> io::Result<&str> {
+    match str::from_utf8(path) {
+        Ok(text) => Ok(text),
+        Err(_) => Err(io::Error::from(ErrorKind::InvalidInput)),
+    }
+}
+
+// Reads until the image is full or the file ends, and answers how many bytes were read.
+fn read_full(file: &mut impl Read, image: &mut [u8]) -> io::Result<usize> {
+    let mut done = 0;
+    while done < image.len() {
+        let got = file.read(&mut image[done..])?;
+        if got == 0 {
+            break;
+        }
+        done += got;
+    }
+    Ok(done)
+}
+
+// All of the file, and how many more bytes it has, one at the most.
+fn read_all(file: &mut impl Read, image: &mut [u8]) -> io::Result<(usize, usize)> {
+    let length = read_full(file, image)?;
+    let mut more = [0; 1];
+    let got = file.read(&mut more)?;
+    Ok((length, got))
 }
 
 // All of the file, which must end where the image does.
-fn load(file: i32, image: &mut [u8]) -> Loaded {
-    let length = io::read_full(file, image);
-    let mut more = [0; 1];
-    let got = libc::read(file, &mut more);
-    if got < 0 {
-        error(b"the image cannot be read");
-        return Loaded::Failed;
+fn load(rt: &impl Print, file: &mut impl Read, image: &mut [u8]) -> io::Result<Loaded> {
+    let Ok((length, more)) = read_all(file, image) else {
+        error(rt, b"the image cannot be read")?;
+        return Ok(Loaded::Failed);
+    };
+    if 0 < more {
+        error(rt, b"the image is larger than 65536 bytes")?;
+        return Ok(Loaded::Failed);
     }
-    if 0 < got {
-        error(b"the image is larger than 65536 bytes");
-        return Loaded::Failed;
-    }
-    Loaded::Length(length)
+    Ok(Loaded::Length(length))
 }
 
-fn open(path: &[u8], size: usize, count: usize, image: &mut [u8]) -> Loaded {
-    let file = os::open_read(path);
-    if 0 <= file {
-        let loaded = load(file, image);
-        libc::close(file);
-        return loaded;
-    }
-    if os::errno() != libc::ENOENT {
-        error(b"the image cannot be read");
-        return Loaded::Failed;
-    }
-    new_image(size, count)
+fn open_read<R: Files>(rt: &R, path: &[u8]) -> io::Result<R::File> {
+    File::open(rt, path_text(path)?)
 }
 
-// Brings the file up to date, in place; answers whether that went well.
-fn save(path: &[u8], image: &[u8]) -> bool {
-    let mut file = os::open_update(path);
-    if file < 0 {
-        file = os::create(path);
+fn open<R: Files + Print>(
+    rt: &R,
+    path: &[u8],
+    size: usize,
+    count: usize,
+    image: &mut [u8],
+) -> io::Result<Loaded> {
+    match open_read(rt, path) {
+        Ok(mut file) => load(rt, &mut file, image),
+        Err(e) if e.kind() == ErrorKind::NotFound => new_image(rt, size, count),
+        Err(_) => {
+            error(rt, b"the image cannot be read")?;
+            Ok(Loaded::Failed)
+        }
     }
-    if file < 0 {
-        return false;
+}
+
+// The file as it is, or a new one where that cannot be.
+fn open_update<R: Files>(rt: &R, path: &[u8]) -> io::Result<R::File> {
+    let path = path_text(path)?;
+    match OpenOptions::new().read(true).write(true).open(rt, path) {
+        Ok(file) => Ok(file),
+        Err(_) => OpenOptions::new()
+            .write(true)
+            .create_new(true)
+            .open(rt, path),
     }
-    let is_saved = io::write_all(file, image);
-    libc::close(file);
-    is_saved
+}
+
+// Brings the file up to date, in place.
+fn save<R: Files>(rt: &R, path: &[u8], image: &[u8]) -> io::Result<()> {
+    let mut file = open_update(rt, path)?;
+    file.write_all(image)
 }
 
 // ---- the script
@@ -458,41 +489,60 @@ fn blank_image() -> [u8; LARGEST]
 }
 
 // Does what a line asks for, and answers whether the image was stored to.
-fn perform(image: &mut [u8], size: usize, count: usize, task: Task, value: &[u8]) -> bool {
+fn perform(
+    rt: &impl Print,
+    image: &mut [u8],
+    size: usize,
+    count: usize,
+    task: Task,
+    value: &[u8],
+) -> io::Result<bool> {
     match task {
         Task::Store(command, length, allowance) => {
             let end = part::least(length, value);
-            let outcome = console::run(image, size, count, command, &value[..end], allowance);
+            let outcome = console::run(rt, image, size, count, command, &value[..end], allowance)?;
             let answer = outcome.answer;
-            0 < answer.stores()
+            Ok(0 < answer.stores())
         }
         Task::Read(id, room) => {
-            console::show(image, size, count, id, room as usize);
-            false
+            console::show(rt, image, size, count, id, room as usize)?;
+            Ok(false)
         }
         Task::Bad => {
-            io::write_all(STDOUT, b"bad command\n");
-            false
+            println!(rt; "bad command")?;
+            Ok(false)
         }
     }
 }
 
-// One line; answers whether to go on.
-fn step(path: &[u8], image: &mut [u8], size: usize, count: usize, line: &[u8]) -> bool {
+// One line; answers whether to go on. What a call stored is in the file also where its answer cannot be printed.
+fn step<R: Files + Print>(
+    rt: &R,
+    path: &[u8],
+    image: &mut [u8],
+    size: usize,
+    count: usize,
+    line: &[u8],
+) -> io::Result<bool> {
     let mut value = value_buffer();
     let asked = task_of(line, &mut value);
-    if !perform(image, size, count, asked, &value) {
-        return true;
+    let performed = perform(rt, image, size, count, asked, &value);
+    let is_due = match performed {
+        Ok(is_stored) => is_stored,
+        Err(_) => matches!(asked, Task::Store(_, _, _)),
+    };
+    let is_saved = !is_due || save(rt, path, image).is_ok();
+    performed?;
+    if !is_saved {
+        error(rt, b"the image cannot be written")?;
     }
-    if save(path, image) {
-        return true;
-    }
-    error(b"the image cannot be written");
-    false
+    Ok(is_saved)
 }
 
 // The lines after the first.
-fn steps(
+fn steps<R: Files + Print>(
+    rt: &R,
+    reader: &mut impl Read,
     path: &[u8],
     image: &mut [u8],
     size: usize,
@@ -500,40 +550,43 @@ fn steps(
     chunk: &mut [u8; CHUNK],
     line: &mut [u8],
     input: Input,
-)
+) -> io::Result<()>
     requires { input.end ≤ 65536 }
 {
     let mut turns = u64::MAX;
-    let mut next = read_line(chunk, input, line);
+    let mut next = read_line(reader, chunk, input, line)?;
     while turns > 0 && next.is_there {
         turns -= 1;
         let end = next.length;
-        if !step(path, image, size, count, &line[..end]) {
-            return;
+        if !step(rt, path, image, size, count, &line[..end])? {
+            return Ok(());
         }
         let left = next.input;
-        next = read_line(chunk, left, line);
+        next = read_line(reader, chunk, left, line)?;
     }
+    Ok(())
 }
 
-fn drive(path: &[u8]) {
+fn drive<R: Files + Print + io::Input>(rt: &R, path: &[u8]) -> io::Result<()> {
+    let mut reader = rt.reader();
     let mut chunk = [0; CHUNK];
     let mut text = line_buffer();
     let line: &mut [u8] = &mut text;
-    let first = read_line(&mut chunk, Input { at: 0, end: 0 }, line);
+    let first = read_line(&mut reader, &mut chunk, Input { at: 0, end: 0 }, line)?;
     let end = first.length;
     let Sizes::Are(size, count) = sizes_of(&line[..end]) else {
-        error(b"the first line is no sizes");
-        return;
+        return error(rt, b"the first line is no sizes");
     };
     let mut space = blank_image();
     let image: &mut [u8] = &mut space;
-    let Loaded::Length(length) = open(path, size as usize, count as usize, image) else {
-        return;
+    let Loaded::Length(length) = open(rt, path, size as usize, count as usize, image)? else {
+        return Ok(());
     };
     let end = part::least(length, image);
     let input = first.input;
     steps(
+        rt,
+        &mut reader,
         path,
         &mut image[..end],
         size as usize,
@@ -541,15 +594,21 @@ fn drive(path: &[u8]) {
         &mut chunk,
         line,
         input,
-    );
+    )
 }
 
-fn main() {
-    let mut path = io::buffer();
-    let length = os::arg(1, &mut path);
-    if os::errno() != 0 || os::arg_count() != 2 {
-        error(b"usage: drive IMAGE");
-        return;
+// Whether there is a second argument. None is longer than no bytes and fits in them.
+fn has_second(rt: &impl Env) -> bool {
+    !matches!(rt.arg(2, &mut []), Err(FillError::NotPresent))
+}
+
+fn main(rt: HostRuntime) -> io::Result<()> {
+    let mut path = [0; PATH];
+    let Ok(length) = rt.arg(1, &mut path) else {
+        return error(&rt, b"usage: drive IMAGE");
+    };
+    if has_second(&rt) {
+        return error(&rt, b"usage: drive IMAGE");
     }
-    drive(&path[..length]);
+    drive(&rt, &path[..length])
 }

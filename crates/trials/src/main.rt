@@ -5,6 +5,7 @@ ghost use Rattle.std.specs.Prelude.{◌<◌, ◌≤◌};
 use answer::{Outcome, Reply};
 use budget::{Kind, Last};
 use layout::Geometry;
+use std::io;
 
 // ---- images of 3 sectors of 128 bytes, built block by block
 
@@ -27,10 +28,8 @@ fn put(image: [u8; IMAGE], s: usize, b: usize, block: [u8; 16]) -> [u8; IMAGE]
 {
     let mut stored = image;
     let start = (s * BLOCKS + b) * 16;
-    let mut i = 0;
-    while i < 16 {
+    for i in 0..16 {
         stored[start + i] = block[i];
-        i += 1;
     }
     stored
 }
@@ -89,161 +88,160 @@ fn not_reopened() -> [u8; IMAGE] {
 // Bytes of the buffer of a read.
 const ROOM: usize = 16;
 
-fn wide(byte: u8) -> u64 {
-    byte as u64
-}
-
-fn print_bytes(bytes: &[u8]) {
-    let mut i = 0;
-    while i < bytes.len() {
-        io::print_hex(1, wide(bytes[i]), 2);
-        i += 1;
+fn print_bytes(rt: &impl Print, bytes: &[u8]) -> io::Result<()> {
+    for byte in bytes {
+        print!(rt; "{byte:02x}")?;
     }
+    Ok(())
 }
 
 // What was asked of a read, and what came of it.
-fn print_read(name: &[u8], id: u32, room: usize, reply: Reply, buffer: [u8; ROOM]) {
-    io::write_all(1, name);
-    io::write_all(1, b", ID ");
-    io::print_decimal(1, id as u64);
-    io::write_all(1, b" into ");
-    io::print_decimal(1, room as u64);
-    io::write_all(1, b": ");
-    io::print_decimal(1, reply.number() as u64);
-    io::write_all(1, b" length ");
-    io::print_decimal(1, reply.length() as u64);
-    io::write_all(1, b" buffer ");
-    print_bytes(&buffer);
-    io::write_all(1, b"\n");
+fn print_read(
+    rt: &impl Print,
+    name: &[u8],
+    id: u32,
+    room: usize,
+    reply: Reply,
+    buffer: [u8; ROOM],
+) -> io::Result<()> {
+    let number = reply.number();
+    let length = reply.length();
+    rt.write_all(name)?;
+    print!(rt; ", ID {id} into {room}: {number} length {length} buffer ")?;
+    print_bytes(rt, &buffer)?;
+    println!(rt)
 }
 
-fn print_kind(kind: Kind) {
+fn print_kind(rt: &impl Print, kind: Kind) -> io::Result<()> {
     match kind {
-        Kind::Lead => io::write_all(1, b"lead"),
-        Kind::Close => io::write_all(1, b"close"),
-        Kind::Done => io::write_all(1, b"done"),
-        Kind::Value => io::write_all(1, b"value"),
-        Kind::Deletion => io::write_all(1, b"deletion"),
-        Kind::Data => io::write_all(1, b"data"),
-        Kind::Blank => io::write_all(1, b"blank"),
-    };
+        Kind::Lead => print!(rt; "lead"),
+        Kind::Close => print!(rt; "close"),
+        Kind::Done => print!(rt; "done"),
+        Kind::Value => print!(rt; "value"),
+        Kind::Deletion => print!(rt; "deletion"),
+        Kind::Data => print!(rt; "data"),
+        Kind::Blank => print!(rt; "blank"),
+    }
 }
 
-fn print_last(last: Last) {
+fn print_last(rt: &impl Print, last: Last) -> io::Result<()> {
     match last {
-        Last::Nothing => {
-            io::write_all(1, b"nothing");
-        }
+        Last::Nothing => print!(rt; "nothing"),
         Last::Store(s, b, kind) => {
-            io::print_decimal(1, s.number() as u64);
-            io::write_all(1, b" ");
-            io::print_decimal(1, b.number() as u64);
-            io::write_all(1, b" ");
-            print_kind(kind);
+            print!(rt; "{} {} ", s.number(), b.number())?;
+            print_kind(rt, kind)
         }
     }
 }
 
 // What a call that stores answered and told as its last store, and the CRC-32 of the image after it.
-fn print_outcome(name: &[u8], allowance: u32, outcome: Outcome, image: &[u8]) {
+fn print_outcome(
+    rt: &impl Print,
+    name: &[u8],
+    allowance: u32,
+    outcome: Outcome,
+    image: &[u8],
+) -> io::Result<()> {
     let answer = outcome.answer;
-    let last = outcome.last;
-    io::write_all(1, name);
-    io::write_all(1, b", allowance ");
-    io::print_decimal(1, allowance as u64);
-    io::write_all(1, b": ");
-    io::print_decimal(1, answer.number() as u64);
-    io::write_all(1, b" stores ");
-    io::print_decimal(1, answer.stores() as u64);
-    io::write_all(1, b" turns ");
-    io::print_decimal(1, answer.turns() as u64);
-    io::write_all(1, b" last ");
-    print_last(last);
-    io::write_all(1, b" image ");
-    io::print_hex(1, crc::crc32(image) as u64, 8);
-    io::write_all(1, b"\n");
+    let number = answer.number();
+    let stores = answer.stores();
+    let turns = answer.turns();
+    let crc = crc::crc32(image);
+    rt.write_all(name)?;
+    print!(rt; ", allowance {allowance}: {number} stores {stores} turns {turns} last ")?;
+    print_last(rt, outcome.last)?;
+    println!(rt; " image {crc:08x}")
 }
 
 // ---- reads
 
 // A read of so many sectors of a size into the first bytes of the buffer.
-fn read_of(name: &[u8], image: [u8; IMAGE], size: usize, count: usize, id: u32, room: usize)
+fn read_of(
+    rt: &impl Print,
+    name: &[u8],
+    image: [u8; IMAGE],
+    size: usize,
+    count: usize,
+    id: u32,
+    room: usize,
+) -> io::Result<()>
     requires { room ≤ 16 }
 {
     let mut buffer = [0xEE; ROOM];
     let reply = store::read(&image, size, count, id, &mut buffer[..room]);
-    print_read(name, id, room, reply, buffer);
+    print_read(rt, name, id, room, reply, buffer)
 }
 
-fn read(name: &[u8], image: [u8; IMAGE], id: u32, room: usize)
+fn read(rt: &impl Print, name: &[u8], image: [u8; IMAGE], id: u32, room: usize) -> io::Result<()>
     requires { room ≤ 16 }
 {
-    read_of(name, image, 128, 3, id, room);
+    read_of(rt, name, image, 128, 3, id, room)
 }
 
 // The newest value, one of more than 8 bytes, buffers that just fit or are too short, an ID without a value.
-fn of_rest() {
+fn of_rest(rt: &impl Print) -> io::Result<()> {
     let image = rest();
-    read(b"rest", image, 7, 16);
-    read(b"rest", image, 7, 8);
-    read(b"rest", image, 7, 7);
-    read(b"rest", image, 7, 0);
-    read(b"rest", image, 8, 12);
-    read(b"rest", image, 8, 11);
-    read(b"rest", image, 9, 16);
-    read(b"rest", image, Geometry::RESERVED_ID, 16);
+    read(rt, b"rest", image, 7, 16)?;
+    read(rt, b"rest", image, 7, 8)?;
+    read(rt, b"rest", image, 7, 7)?;
+    read(rt, b"rest", image, 7, 0)?;
+    read(rt, b"rest", image, 8, 12)?;
+    read(rt, b"rest", image, 8, 11)?;
+    read(rt, b"rest", image, 9, 16)?;
+    read(rt, b"rest", image, Geometry::RESERVED_ID, 16)
 }
 
 // A deletion hides the older value; what is no entry ends the reading of its sector; wrong data is told after a short buffer.
-fn of_changed() {
+fn of_changed(rt: &impl Print) -> io::Result<()> {
     let deleted = put(rest(), 1, 3, encode::deletion(SECOND, 8));
-    read(b"deleted", deleted, 8, 16);
-    read(b"deleted", deleted, 7, 16);
+    read(rt, b"deleted", deleted, 8, 16)?;
+    read(rt, b"deleted", deleted, 7, 16)?;
     let stale = put(rest(), 1, 3, encode::deletion(FIRST, 7));
-    read(b"entry of another cycle", stale, 7, 16);
+    read(rt, b"entry of another cycle", stale, 7, 16)?;
     let broken = damaged(rest(), 1, 4, 15);
-    read(b"newest entry damaged", broken, 7, 16);
+    read(rt, b"newest entry damaged", broken, 7, 16)?;
     let bad = damaged(rest(), 0, 0, 11);
-    read(b"data damaged", bad, 8, 12);
-    read(b"data damaged", bad, 8, 11);
-    read(b"data damaged", bad, 7, 16);
+    read(rt, b"data damaged", bad, 8, 12)?;
+    read(rt, b"data damaged", bad, 8, 11)?;
+    read(rt, b"data damaged", bad, 7, 16)
 }
 
 // Stores that are not at rest, and images that are none.
-fn of_states() {
-    read(b"mid-turn", mid_turn(), 7, 16);
-    read(b"done, not reopened", not_reopened(), 7, 16);
+fn of_states(rt: &impl Print) -> io::Result<()> {
+    read(rt, b"mid-turn", mid_turn(), 7, 16)?;
+    read(rt, b"done, not reopened", not_reopened(), 7, 16)?;
     let two = put(rest(), 2, 5, encode::done(THIRD));
-    read(b"two working", two, 7, 16);
+    read(rt, b"two working", two, 7, 16)?;
     let used = put(rest(), 2, 5, encode::deletion(THIRD, 7));
-    read(b"spare in use", used, 7, 16);
+    read(rt, b"spare in use", used, 7, 16)?;
     let lost = damaged(rest(), 2, 7, 9);
-    read(b"lead damaged", lost, 7, 16);
-    read(b"lead damaged", lost, Geometry::RESERVED_ID, 16);
+    read(rt, b"lead damaged", lost, 7, 16)?;
+    read(rt, b"lead damaged", lost, Geometry::RESERVED_ID, 16)
 }
 
 // Sizes that are not those of the image, or of none.
-fn of_sizes() {
+fn of_sizes(rt: &impl Print) -> io::Result<()> {
     let image = rest();
-    read_of(b"2 sectors of 128", image, 128, 2, 7, 16);
-    read_of(b"2 sectors of 192", image, 192, 2, 7, 16);
-    read_of(b"1 sector of 384", image, 384, 1, 7, 16);
-    read_of(b"4 sectors of 96", image, 96, 4, 7, 16);
+    read_of(rt, b"2 sectors of 128", image, 128, 2, 7, 16)?;
+    read_of(rt, b"2 sectors of 192", image, 192, 2, 7, 16)?;
+    read_of(rt, b"1 sector of 384", image, 384, 1, 7, 16)?;
+    read_of(rt, b"4 sectors of 96", image, 96, 4, 7, 16)?;
     read_of(
+        rt,
         b"2 sectors of 128",
         image,
         128,
         2,
         Geometry::RESERVED_ID,
         16,
-    );
+    )
 }
 
-fn of_reads() {
-    of_rest();
-    of_changed();
-    of_states();
-    of_sizes();
+fn of_reads(rt: &impl Print) -> io::Result<()> {
+    of_rest(rt)?;
+    of_changed(rt)?;
+    of_states(rt)?;
+    of_sizes(rt)
 }
 
 // ---- formats and mounts
@@ -259,46 +257,50 @@ fn stale() -> [u8; IMAGE] {
 const ENOUGH: u32 = 4294967295;
 
 // A mount with an allowance, and then one that may make all its stores.
-fn mount_twice(name: &[u8], image: [u8; IMAGE], allowance: u32) {
+fn mount_twice(rt: &impl Print, name: &[u8], image: [u8; IMAGE], allowance: u32) -> io::Result<()> {
     let mut mounted = image;
     let first = store::mount(&mut mounted, 128, 3, allowance);
-    print_outcome(name, allowance, first, &mounted);
+    print_outcome(rt, name, allowance, first, &mounted)?;
     let second = store::mount(&mut mounted, 128, 3, ENOUGH);
-    print_outcome(b"  then", ENOUGH, second, &mounted);
+    print_outcome(rt, b"  then", ENOUGH, second, &mounted)
 }
 
 // Every allowance up to the stores due.
-fn mount_each(name: &[u8], image: [u8; IMAGE], due: u32)
+fn mount_each(rt: &impl Print, name: &[u8], image: [u8; IMAGE], due: u32) -> io::Result<()>
     requires { due < 100 }
 {
-    let mut allowance = 0;
-    while allowance <= due {
-        mount_twice(name, image, allowance);
-        allowance += 1;
+    for allowance in 0..=due {
+        mount_twice(rt, name, image, allowance)?;
     }
+    Ok(())
 }
 
 // A format of a store's bytes, and a mount of what it left.
-fn format_and_mount(count: usize, allowance: u32) {
+fn format_and_mount(rt: &impl Print, count: usize, allowance: u32) -> io::Result<()> {
     let mut image = rest();
     let formatted = store::format(&mut image, 128, count, allowance);
-    print_outcome(b"format", allowance, formatted, &image);
+    print_outcome(rt, b"format", allowance, formatted, &image)?;
     let mounted = store::mount(&mut image, 128, count, 0);
-    print_outcome(b"  mount", 0, mounted, &image);
+    print_outcome(rt, b"  mount", 0, mounted, &image)
 }
 
-fn of_mounts() {
-    format_and_mount(3, 1);
-    format_and_mount(3, 24);
-    format_and_mount(3, 25);
-    format_and_mount(4, 25);
-    mount_each(b"mount at rest", rest(), 0);
-    mount_each(b"mount with a damaged lead", damaged(rest(), 2, 7, 9), 0);
-    mount_each(b"mount mid-turn", stale(), 8);
-    mount_each(b"mount done, not reopened", not_reopened(), 1);
+fn of_mounts(rt: &impl Print) -> io::Result<()> {
+    format_and_mount(rt, 3, 1)?;
+    format_and_mount(rt, 3, 24)?;
+    format_and_mount(rt, 3, 25)?;
+    format_and_mount(rt, 4, 25)?;
+    mount_each(rt, b"mount at rest", rest(), 0)?;
+    mount_each(
+        rt,
+        b"mount with a damaged lead",
+        damaged(rest(), 2, 7, 9),
+        0,
+    )?;
+    mount_each(rt, b"mount mid-turn", stale(), 8)?;
+    mount_each(rt, b"mount done, not reopened", not_reopened(), 1)
 }
 
-fn main() {
-    of_reads();
-    of_mounts();
+fn main(rt: HostRuntime) -> io::Result<()> {
+    of_reads(&rt)?;
+    of_mounts(&rt)
 }
