@@ -12,7 +12,6 @@ use Rattle.rules.specs.Calls as rule
 use Rattle.rules.specs.Calls.{Due, Numbers, reply_numbers}
 use Rattle.rules.specs.Demands as rules
 use Rattle.rules.specs.Demands.{AreBytes, IsUser, IsReadBack, ReadBack, DeleteBack, MountedFrom, MountShows, due, budget, views}
-use Rattle.rules.proofs.Basics.Notation.{if-false}
 use Rattle.rules.proofs.Crash.Landed.{rest-whole, rest-told}
 use Rattle.rules.proofs.Crash.Reads.{settled-read}
 use Rattle.rules.proofs.Crash.ReadBack.{read_back, delete-back}
@@ -54,7 +53,7 @@ module _ (size count : ℕ) (image : List ℕ) (typed : AreBytes image) (legal :
         newest = λ {w} {id} {buffer} rests user x.
             let q = rest-told size count image typed legal w rests in
             let found : rule.read size count image id (length buffer) ≡ rule.read_entry (length buffer) (lookup id (history (at_rest w) (views size count image))) =
-            settled-read size count image legal (rest-whole size count image typed legal w rests) q id (length buffer) ∙ simp (ne_eqb id reserved_id user.1, if-false) in
+            settled-read size count image legal (rest-whole size count image typed legal w rests) q id (length buffer) ∙ simp (ne_eqb id reserved_id user.1) in
             (x.meets.0 ∙ ap reply_numbers found, x.meets.1.0 ∙ ap (λ (f : rule.Reply). rule.buffer_after f buffer) found);
       }
 

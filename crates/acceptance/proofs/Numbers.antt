@@ -1,10 +1,10 @@
 -- The paper's numbers tell an answer from every other, and every answer of the rules has its own.
+use Rattle.std.specs.Prelude.{if◌then◌else◌}
 use mathlib.Core.Path.{◌≡◌, refl, sym, ap, ◌∙◌}
 use Prim.Native.Nat.{ℕ, ◌≤◌}
 use native.Mathlib.Omega.{arith}
 use lib.Dec.{eqb}
 use borrow.Author.Tests.{ne_eqb}
-use Rattle.rules.specs.Notation.{if◌then◌else◌}
 use Rattle.rules.specs.Calls as rule
 use Rattle.rules.specs.Calls.{Numbers, refusal_number, length_told, answer_numbers, reply_numbers}
 use Rattle.rules.specs.Demands.{gives}
@@ -56,7 +56,7 @@ unfoldable reply_by : Numbers → Reply
 reply_by n = if eqb n.number 0 then reply.Value n.length else reply.Refused (refusal_by n.number n.length)
 
 refusal-by : (r : Refusal) → refusal_by (refusal_number (refusal_of r)) (length_told (refusal_of r)) ≡ r
-unfolding refusal_by refusal_of refusal_number length_told if◌then◌else◌
+unfolding refusal_by refusal_of refusal_number length_told
 refusal-by refusal.Geometry = refl
 refusal-by refusal.NoStore = refl
 refusal-by refusal.Unfinished = refl
@@ -69,7 +69,7 @@ refusal-by refusal.BadData = refl
 refusal-by (refusal.ShortBuffer len) = refl
 
 answer-by : (x : Answer) → answer_by (answer_numbers_of x) ≡ x
-unfolding answer_by answer_numbers_of answer_numbers if◌then◌else◌
+unfolding answer_by answer_numbers_of answer_numbers
 answer-by (answer.Done stores turns) = refl
 answer-by (answer.Cut stores) = refl
 answer-by (answer.Refused r) =
@@ -77,7 +77,7 @@ answer-by (answer.Refused r) =
     simp (ne_eqb n 0 (λ e. omega (arith, refusal-number (refusal_of r))), ne_eqb n 11 (λ e. omega (arith, refusal-most (refusal_of r))), refusal-by r)
 
 reply-by : (x : Reply) → reply_by (reply_numbers_of x) ≡ x
-unfolding reply_by reply_numbers_of reply_numbers if◌then◌else◌
+unfolding reply_by reply_numbers_of reply_numbers
 reply-by (reply.Value len) = refl
 reply-by (reply.Refused r) =
     let n : ℕ = refusal_number (refusal_of r) in
@@ -92,7 +92,7 @@ same-reply x y e = sym (reply-by x) ∙ ap reply_by e ∙ reply-by y
 
 -- a 7 is no room, and tells nothing else
 pub no_room_lem : (x : Answer) → (answer_numbers_of x).number ≡ 7 → answer_numbers_of x ≡ gives 7 0 0 0
-unfolding answer_by refusal_by answer_numbers_of answer_numbers refusal_of refusal_number length_told gives if◌then◌else◌
+unfolding answer_by refusal_by answer_numbers_of answer_numbers refusal_of refusal_number length_told gives
 no_room_lem x e =
     let is : answer_by (answer_numbers_of x) ≡ answer.Refused refusal.NoRoom = rw e in
     ap answer_numbers_of (sym (answer-by x) ∙ is)

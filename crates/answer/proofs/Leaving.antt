@@ -8,7 +8,7 @@ use Rattle.rules.specs.Ground.{block_size}
 use Rattle.rules.specs.Stores.{Store, apply_bytes}
 use Rattle.rules.specs.Calls as rule
 use Rattle.rules.specs.Calls.{Due, refuse, make, made}
-use Rattle.rules.proofs.Basics.Notation.{if-true, if-false, by-test}
+use Rattle.rules.proofs.Basics.Notation.{by-test}
 use Rattle.rules.proofs.Crash.Pinned.{refusal-leaves}
 use Rattle.layout.specs.declared.Geometry.{Geometry}
 use Rattle.layout.specs.Geometry.{blocks_of}
@@ -42,8 +42,8 @@ module _ {g : Geometry} {before after : List ℕ} {ss : List Store} {a : ℕ} {r
   leaves-made size turns same e =
       subst (λ (d : Due). Leaves size d a before after (outcome_as a r turns)) (sym e)
       (by-test r.cut
-      (λ cut. rw (cut, if-true) (told size turns same (answer.Cut a) (ap rule.answer_numbers (sym (did-answer-cut did turns cut)))))
-      (λ whole. rw (whole, if-false) (told size turns same (answer.Done (a - r.left) turns) (ap rule.answer_numbers (sym (did-answer-done did turns whole))))))
+      (λ cut. rw cut (told size turns same (answer.Cut a) (ap rule.answer_numbers (sym (did-answer-cut did turns cut)))))
+      (λ whole. rw whole (told size turns same (answer.Done (a - r.left) turns) (ap rule.answer_numbers (sym (did-answer-done did turns whole))))))
 
 pub leaves-refused : {due : Due} (size a : ℕ) (bytes : List ℕ) (reason : Refusal) → due ≡ refuse (refusal_of reason)
     → Leaves size due a bytes bytes (refused_as reason)

@@ -1,6 +1,5 @@
 -- The crate's answers beside those of the rules: `..Of` reads one as the other, `..As` gives the answer for it.
-use Rattle.std.specs.Prelude.{◌≡◌, List, ℕ, ◌-◌}
-use Rattle.rules.specs.Notation.{if◌then◌else◌}
+use Rattle.std.specs.Prelude.{◌≡◌, List, ℕ, ◌-◌, if◌then◌else◌}
 use Rattle.rules.specs.Meaning.{length_in}
 use Rattle.rules.specs.Calls as rule
 use Rattle.budget.specs.declared.Budget.{Budget}

@@ -7,7 +7,7 @@ use Prim.Native.Nat.{ℕ, suc, ◌+◌, ◌-◌, ◌^◌, ◌<◌, ◌≤◌}
 use native.Mathlib.Omega.{arith}
 use lib.ListN.{length, get_or}
 use borrow.Author.Tests.{leb-true, le-leb}
-use Rattle.rules.specs.Notation.{Each, if◌then◌else◌, pieces}
+use Rattle.rules.specs.Notation.{Each, pieces}
 use Rattle.rules.specs.Ground.{Block, Image, kept_from_values, kept_from_deletions, image_of}
 use Rattle.rules.specs.Look as rule
 use Rattle.rules.specs.Look.{start, after, data_blocks, need_of, data_of, is_within}
@@ -158,7 +158,7 @@ module _ (g : Geometry) (bytes : List ℕ) (s : ℕ) {active : Active} (sound : 
 -- ---- an entry by its head and the bytes of its value
 
 no-data : (value : List ℕ) → 0 ≡ length value → value_blocks value ≡ []
-unfolding value_entry data_blocks pieces if◌then◌else◌
+unfolding value_entry data_blocks pieces
 no-data [] none = refl
 no-data (x ∷ value) none = absurd (omega arith)
 
@@ -177,7 +177,7 @@ entry-head (head.Value id len) value same = ap (rule.value id) (sym same)
 
 -- and so are their number
 pub data-of : (h : Head) (value : List ℕ) → length_of h ≡ length value → data_of (head_of h) ≡ data_blocks (length value)
-unfolding data_of data_blocks if◌then◌else◌
+unfolding data_of data_blocks
 data-of head.Done [] none = refl
 data-of head.Done (x ∷ value) none = absurd (omega arith)
 data-of (head.Deletion id) [] none = refl

@@ -17,7 +17,6 @@ use Rattle.rules.specs.Meaning.{State, at_rest, state_of, history, lookup}
 use Rattle.rules.specs.Stores.{value_entry, deletion_entry}
 use Rattle.rules.specs.Calls as rule
 use Rattle.rules.specs.Calls.{Due, refuse, in_rest, change_on, write_on, delete_on}
-use Rattle.rules.proofs.Basics.Notation.{if-true, if-false}
 use Rattle.layout.specs.declared.Geometry.{Geometry}
 use Rattle.layout.specs.Geometry.{blocks_of, sectors_of}
 use Rattle.image.specs.Answer.{views_in}
@@ -46,18 +45,18 @@ module _ (g : Geometry) (bytes : List ℕ) (id : ℕ) (value : List ℕ) where
 
   pub write-reserved : id ≡ reserved_id → writing ≡ refuse rule.reserved
   unfolding write_on
-  write-reserved same = rw (eq-eqb id reserved_id same, if-true)
+  write-reserved same = rw (eq-eqb id reserved_id same)
 
   module _ (other : id ≡ reserved_id → ⊥) where
     pub write-empty : length value ≡ 0 → writing ≡ refuse rule.empty
     unfolding write_on
-    write-empty zeroes = rw (ne_eqb id reserved_id other, if-false, empty-none value zeroes, if-true)
+    write-empty zeroes = rw (ne_eqb id reserved_id other, empty-none value zeroes)
 
     module _ (some_bytes : 1 ≤ length value) where
       pub write-too-long : blocks_of g - kept_from_values < need_of (look.value id (length value)) → writing ≡ refuse rule.too_long
       unfolding write_on value_entry
       write-too-long long =
-          rw (ne_eqb id reserved_id other, if-false, filled value some_bytes, if-false, lt-ltb (blocks_of g - kept_from_values) (need_of (look.value id (length value))) long, if-true)
+          rw (ne_eqb id reserved_id other, filled value some_bytes, lt-ltb (blocks_of g - kept_from_values) (need_of (look.value id (length value))) long)
 
       module _ (fits : need_of (look.value id (length value)) ≤ blocks_of g - kept_from_values) where
         abbrev pub value_by_state : ℕ → Due
@@ -66,7 +65,7 @@ module _ (g : Geometry) (bytes : List ℕ) (id : ℕ) (value : List ℕ) where
         pub write-by-state : writing ≡ rule.in_rest (state_of (views_in g bytes)) refuse value_by_state
         unfolding write_on value_entry
         write-by-state =
-            rw (ne_eqb id reserved_id other, if-false, filled value some_bytes, if-false, le-ltb (blocks_of g - kept_from_values) (need_of (look.value id (length value))) fits, if-false)
+            rw (ne_eqb id reserved_id other, filled value some_bytes, le-ltb (blocks_of g - kept_from_values) (need_of (look.value id (length value))) fits)
 
         pub write-rest : {w : ℕ} → state_of (views_in g bytes) ≡ some (at_rest w) → writing ≡ value_by_state w
         write-rest e = write-by-state ∙ in_rest_lem refuse value_by_state e
@@ -79,7 +78,7 @@ module _ (g : Geometry) (bytes : List ℕ) (id : ℕ) where
 
   pub delete-reserved : id ≡ reserved_id → deleting ≡ refuse rule.reserved
   unfolding delete_on
-  delete-reserved same = rw (eq-eqb id reserved_id same, if-true)
+  delete-reserved same = rw (eq-eqb id reserved_id same)
 
   module _ (other : id ≡ reserved_id → ⊥) where
     abbrev pub removal : ℕ → Due
@@ -93,7 +92,7 @@ module _ (g : Geometry) (bytes : List ℕ) (id : ℕ) where
 
     pub delete-by-state : deleting ≡ rule.in_rest (state_of (views_in g bytes)) refuse deletion_by_state
     unfolding delete_on
-    delete-by-state = rw (ne_eqb id reserved_id other, if-false)
+    delete-by-state = rw (ne_eqb id reserved_id other)
 
     module _ {w : ℕ} (rest : state_of (views_in g bytes) ≡ some (at_rest w)) where
       pub delete-absent : lookup id (history (at_rest w) (views_in g bytes)) ≡ none → deleting ≡ refuse rule.absent

@@ -11,7 +11,6 @@ use Rattle.rules.specs.Reading.{Entry}
 use Rattle.rules.specs.Meaning.{is_sound}
 use Rattle.rules.specs.Calls as rule
 use Rattle.rules.specs.Calls.{read_entry, buffer_after}
-use Rattle.rules.proofs.Basics.Notation.{if-true, if-false}
 use Rattle.rules.proofs.Basics.Lists.{length_part}
 use Rattle.search.specs.declared.Check.{Check}
 use Rattle.search.specs.Value.{passes}
@@ -24,18 +23,18 @@ reply-absent room e = rw e
 module _ {bytes : List ℕ} {told : Option Entry} {place len : ℕ} {check : Check} (h : Holds bytes told place len check) (room : ℕ) where
   pub reply-short : room < len → read_entry room told ≡ rule.refused (rule.short_buffer len)
   unfolding read_entry
-  reply-short short = rw (h.told, h.length, lt-ltb room len short, if-true)
+  reply-short short = rw (h.told, h.length, lt-ltb room len short)
 
   checked : is_sound h.entry ≡ passes check (take len (drop place bytes))
   checked = h.checked ∙ ap (passes check) h.lies
 
   pub reply-bad : len ≤ room → passes check (take len (drop place bytes)) ≡ false → read_entry room told ≡ rule.refused rule.bad_data
   unfolding read_entry
-  reply-bad fits wrong = rw (h.told, h.length, le-ltb room len fits, if-false, checked ∙ wrong, if-false)
+  reply-bad fits wrong = rw (h.told, h.length, le-ltb room len fits, checked ∙ wrong)
 
   pub reply-found : len ≤ room → passes check (take len (drop place bytes)) ≡ true → read_entry room told ≡ rule.found h.entry
   unfolding read_entry
-  reply-found fits right = rw (h.told, h.length, le-ltb room len fits, if-false, checked ∙ right, if-true)
+  reply-found fits right = rw (h.told, h.length, le-ltb room len fits, checked ∙ right)
 
   -- "buffer's first bytes the value, rest unchanged"
   pub buffer-found : (buffer : List ℕ)

@@ -7,7 +7,7 @@ use Prim.Native.Nat.{ℕ, ◌+◌, ◌<◌}
 use native.Mathlib.Omega.{arith}
 use lib.ListN.{length, get_or, set, take}
 use lib.Seq.{get_or-set_same, get_or-set_other}
-use Rattle.rules.specs.Notation.{if◌then◌else◌, when, Each}
+use Rattle.rules.specs.Notation.{when, Each}
 use Rattle.rules.specs.Ground.{Block, Sector, Image, block_at, store}
 use Rattle.rules.specs.Entry.{lead_block}
 use Rattle.rules.specs.Look as look
@@ -120,7 +120,7 @@ module _ (a b c d : Bytes 8) {im : Image} (f : Filled 8 0 im (entry a ∷ entry 
       }
 
   mount-3 : mount_on 8 2 cut-3 ≡ make (lead_store 8 0 2 ∷ []) 0
-  unfolding mount_on in_state mount_turns mount next if◌then◌else◌
+  unfolding mount_on in_state mount_turns mount next
   mount-3 = simp state-3 (ap (λ (ss : List Store). make ss 0) (reopen-quiet 8 0 cut-3 (omega (arith, laid-3.whole.sized)) quiet-3))
 
   -- of the second: the spare is reopened, and the turn made again
@@ -202,7 +202,7 @@ module _ (a b c d : Bytes 8) {im : Image} (f : Filled 8 0 im (entry a ∷ entry 
       }
 
   mount-2 : mount_on 8 2 cut-2 ≡ make (lead_store 8 1 2 ∷ finish_stores 8 2 1 0 (entry c ∷ [])) 1
-  unfolding mount_on in_state mount_turns mount ◌and_then◌ next if◌then◌else◌
+  unfolding mount_on in_state mount_turns mount ◌and_then◌ next
   mount-2 =
       let two : 2 < 256 = omega arith in
       let finishes : finish_turn 8 2 1 again ≡ finish_stores 8 2 1 0 (entry c ∷ []) =

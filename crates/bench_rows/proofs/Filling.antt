@@ -18,7 +18,6 @@ use Rattle.rules.specs.Stores.{Store, apply, nothing, ◌and_then◌, append, do
 use Rattle.rules.specs.Calls.{make, in_rest, write_on}
 use Rattle.rules.specs.Demands.{IsId, IsUser, AreBytes}
 use Rattle.rules.proofs.Terms.{IsImage, IsProper, IsInside, added_view, changed}
-use Rattle.rules.proofs.Basics.Notation.{if-true}
 use Rattle.rules.proofs.Basics.Parts.{each-replicate}
 use Rattle.rules.proofs.Format.Ground.{length-pieces}
 use Rattle.rules.proofs.Blocks.Counting.{needs-all}
@@ -148,7 +147,7 @@ module _ (B : ℕ) (big : 8 ≤ B) (most : B ≤ 4096) {id : ℕ} {bytes : List 
   module _ (n : ℕ) {im : Image} {es : List Entry} (f : Filled B n im es) (room : needs_of es + (1 + data_blocks (length bytes)) ≤ B - kept_from_values) where
     no-turn : least_turns need (B - kept_from_values) 0 (views_of B im) ≡ some 0
     unfolding least_turns first_fit view_at needs_of need_of done_entry
-    no-turn = simp f.views (simp (le-leb (0 + needs_of es + need) (B - kept_from_values) (omega arith), if-true))
+    no-turn = simp f.views (simp (le-leb (0 + needs_of es + need) (B - kept_from_values) (omega arith)))
 
     done-room : needs_of (done_entry ∷ es) + need ≤ B - kept_from_values
     unfolding needs_of need_of done_entry

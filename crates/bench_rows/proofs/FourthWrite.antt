@@ -1,5 +1,6 @@
 -- Bench sheet, row 9: on a fresh 2 x 128 ID 7 is written with any eight bytes, and the fourth write takes a turn that copies the
 -- third value.
+use Rattle.std.specs.Prelude.{if◌then◌else◌}
 use mathlib.Core.Path.{◌≡◌, refl, sym, ap, ap₂, subst, ◌∙◌}
 use mathlib.Core.Bool.{true, false}
 use mathlib.Core.List.{List, [], ◌∷◌, ◌++◌}
@@ -8,7 +9,7 @@ use Prim.Native.Nat.{ℕ, ◌+◌, ◌-◌, ◌<◌, ◌≤◌}
 use native.Mathlib.Omega.{arith}
 use lib.ListN.{length, get_or, set, take}
 use lib.Seq.{take_all, get_or-set_same, get_or-set_other}
-use Rattle.rules.specs.Notation.{if◌then◌else◌, pieces, erased}
+use Rattle.rules.specs.Notation.{pieces, erased}
 use Rattle.rules.specs.Ground.{Block, Sector, Image, block_at, store}
 use Rattle.rules.specs.Entry.{done_block, close_block}
 use Rattle.rules.specs.Look as look
@@ -20,7 +21,6 @@ use Rattle.rules.specs.Calls.{Due, make, done, answer, made, write_on, leaves}
 use Rattle.rules.specs.Demands.{write, IsUser, IsId, plenty, budget, due, run, step}
 use Rattle.bench_rows.specs.BenchSheet.{Fresh, image_after, answers, Bytes, trace, three_writes, fourth_write, FourthWrite}
 use Rattle.rules.proofs.Terms.{IsProper}
-use Rattle.rules.proofs.Basics.Notation.{if-true}
 use Rattle.rules.proofs.Basics.Parts.{each_take}
 use Rattle.rules.proofs.Format.Look.{need-blocks}
 use Rattle.rules.proofs.Computing.{computing}
@@ -44,7 +44,7 @@ entry v = record { head = look.value 7 8; inline = v.bytes ++ erased (8 - length
 
 module _ (v : Bytes 8) where
   pub entry_of : value_entry 7 v.bytes ≡ entry v
-  unfolding value_entry entry pieces data_blocks if◌then◌else◌
+  unfolding value_entry entry pieces data_blocks
   entry_of = simp v.sized
 
   pub is-value : IsValue 8 7 v.bytes
@@ -77,7 +77,7 @@ lands v {image} {im} {es} c f room =
     let count : length stores ≡ 1 = value-stores 8 big most (is-value v) 1 0 (done_entry ∷ es) ∙ omega arith in
     let all : take plenty stores ≡ stores = take_all plenty stores (omega arith) in
     record {
-      says = ap (λ (d : Due). answer d plenty) what ∙ simp (count, if-true);
+      says = ap (λ (d : Due). answer d plenty) what ∙ simp count;
       blocks = apply (take plenty stores) im;
       left =
           subst (λ (d : Due). HasBlocks 128 2 (leaves 128 d plenty image) (apply (take plenty stores) im)) (sym what)
@@ -138,7 +138,7 @@ module _ (a b c d : Bytes 8) {im : Image} (f : Filled 8 0 im (entry a ∷ entry 
       }
 
   pub fourth-due : write_on 8 2 im 7 d.bytes ≡ make (fourth_stores c d) 1
-  unfolding next if◌then◌else◌ entry needs_of need_of done_entry data_blocks
+  unfolding next entry needs_of need_of done_entry data_blocks
   fourth-due =
       let few : length d.bytes ≤ 8 = omega (arith, d.sized) in
       let none_more : data_blocks (length d.bytes) ≡ 0 = (need-blocks (length d.bytes)).1 few in

@@ -19,7 +19,6 @@ use Rattle.rules.specs.Stores.{Store, apply, nothing, format}
 use Rattle.rules.specs.Calls.{Due, make, refuse, geometry, absent, Answer, done, Reply, answer, answer_numbers, refusal_number, made, in_state, in_rest, mount_turns, format_on, mount_on, delete_on, read_entry, read_on, format_due, mount_due, delete_due, read, leaves}
 use Rattle.rules.specs.Demands.{plenty, views}
 use Rattle.bench_rows.specs.BenchSheet.{Fresh, formatted, HoldsNothing, IsAbsent}
-use Rattle.rules.proofs.Basics.Notation.{if-true, if-false}
 use Rattle.rules.proofs.Format.Ground.{legal-bounds}
 use Rattle.rules.proofs.Computing.{computing}
 use Rattle.rules.proofs.Blocks.OnBytes.{Lies, inside-lie, HasBlocks, call-on, call-off, leaves-on}
@@ -46,7 +45,7 @@ makes ss turns a answered = go (leb (length ss) a) refl
     go : (b : Bool) → leb (length ss) a ≡ b → take a ss ≡ ss
     go true e = take_all a ss (leb-true (length ss) a e)
     go false e =
-        let z : ◌≡◌ {A = ℕ} 11 0 = simp (e, if-false) at answered in
+        let z : ◌≡◌ {A = ℕ} 11 0 = simp e at answered in
         absurd (omega arith)
 
 pub fresh-blocks : (size count : ℕ) {image : List ℕ} → Fresh size count image → HasBlocks size count image (final_image (size / block_size) 0 count)
@@ -77,7 +76,7 @@ fresh-made size count bytes legal =
     let many : length (format B count) ≡ 1 + count * B = length-format B count (omega arith) (omega arith) in
     let few : count * B ≤ 64 * 4096 = mul-le-mul bounds.sectors_to bounds.blocks_to in
     ap (λ (d : Due). answer d plenty) (call-on size count whole refuse format_on)
-    ∙ simp (many, le-leb (1 + count * B) plenty (omega arith), if-true)
+    ∙ simp (many, le-leb (1 + count * B) plenty (omega arith))
 
 -- What the calls answer on these blocks.
 module _ (B S : ℕ) (blocks : 8 ≤ B) (sectors : 2 ≤ S) where
@@ -104,11 +103,11 @@ module _ (B S : ℕ) (blocks : 8 ≤ B) (sectors : 2 ≤ S) where
   module _ (id : ℕ) (user : id ≡ reserved_id → ⊥) where
     reads_nothing_lem : (buffer_length : ℕ) → read_on B S (final_image B 0 S) id buffer_length ≡ Reply.refused absent
     unfolding read_on in_rest read_entry
-    reads_nothing_lem buffer_length = simp (ne_eqb id reserved_id user, if-false, rests, matches-nothing id)
+    reads_nothing_lem buffer_length = simp (ne_eqb id reserved_id user, rests, matches-nothing id)
 
     deletes-nothing : delete_on B S (final_image B 0 S) id ≡ refuse absent
     unfolding delete_on in_rest
-    deletes-nothing = simp (ne_eqb id reserved_id user, if-false, rests) (rw (matches-nothing id, in_rest))
+    deletes-nothing = simp (ne_eqb id reserved_id user, rests) (rw (matches-nothing id, in_rest))
 
 -- Bench sheet, row 12.
 pub holds-nothing : (size count : ℕ) (image : List ℕ) → Fresh size count image → HoldsNothing size count image
@@ -123,7 +122,7 @@ holds-nothing size count image fresh =
           ∙ reads_nothing_lem B count bounds.blocks_from bounds.sectors_from id user buffer_length;
       mounts = λ a.
           ap (λ (d : Due). answer d a) (call-on size count c refuse mount_on ∙ mounts-nothing B count bounds.blocks_from bounds.sectors_from)
-          ∙ simp (le-leb 0 a (omega arith), if-true);
+          ∙ simp (le-leb 0 a (omega arith));
       deletes = λ id a user.
           ap (λ (d : Due). answer d a)
           (call-on size count c refuse (λ B S im. delete_on B S im id) ∙ deletes-nothing B count bounds.blocks_from bounds.sectors_from id user);
@@ -135,5 +134,5 @@ unfolding delete_due delete_on in_rest answer views
 deletes-absent size count image id a x =
     let whole : HasBlocks size count image (image_of (size / block_size) count image) = record { legal = x.legal; blocks = refl } in
     let what : delete_on (size / block_size) count (image_of (size / block_size) count image) id ≡ refuse absent =
-    simp (ne_eqb id reserved_id x.user, if-false, x.rests) (rw (x.told, in_rest)) in
+    simp (ne_eqb id reserved_id x.user, x.rests) (rw (x.told, in_rest)) in
     ap (λ (d : Due). answer d a) (call-on size count whole refuse (λ B S im. delete_on B S im id) ∙ what)

@@ -1,5 +1,6 @@
 -- Bench sheet, rows 2 and 5: in a fresh 4 x 1024 values of one need fill the first sector without a turn, and the next one
 -- takes a turn, which copies nothing.
+use Rattle.std.specs.Prelude.{if◌then◌else◌}
 use mathlib.Core.Path.{◌≡◌, refl, sym, ap, ap₂, subst, ◌∙◌}
 use mathlib.Core.Bool.{false}
 use mathlib.Core.List.{List, [], ◌∷◌, ◌++◌, map}
@@ -10,7 +11,6 @@ use native.Mathlib.Omega.{arith}
 use lib.ListN.{length, get_or, take, replicate, length-append}
 use lib.Seq.{take_all}
 use borrow.Author.Tests.{le-leb, lt-leb}
-use Rattle.rules.specs.Notation.{if◌then◌else◌}
 use Rattle.rules.specs.Ground.{Block, Image, block_at}
 use Rattle.rules.specs.Look.{start, look, is_close, is_entry, is_within, data_blocks, need_of}
 use Rattle.rules.specs.Reading.{Entry, View, after_all}
@@ -19,7 +19,6 @@ use Rattle.rules.specs.Stores.{Store, apply, done_entry, value_entry, least_turn
 use Rattle.rules.specs.Calls.{Due, make, Answer, done, answer, made, write_on, leaves}
 use Rattle.rules.specs.Demands.{plenty, budget, due}
 use Rattle.bench_rows.specs.BenchSheet.{Fresh, UserValue, write_of, answers}
-use Rattle.rules.proofs.Basics.Notation.{if-true}
 use Rattle.rules.proofs.Basics.Parts.{each_take}
 use Rattle.rules.proofs.Format.Look.{need-blocks}
 use Rattle.rules.proofs.Computing.{computing}
@@ -88,7 +87,7 @@ module _ (least longest : ℕ) (some_bytes : 1 ≤ least) (k : ℕ) (fits : k �
     one-turn full = ap₂ (λ (n : ℕ) (vs : List View). least_turns n 59 0 vs) (needs v) f.views ∙ turns-by k es fits full
 
     turned : 59 < needs_of es + k → write_on 64 4 im v.id v.bytes ≡ make ((close_store 64 0 ∷ finish_stores 64 1 1 2 []) ++ clear_stores 64 1 1 (done_entry ∷ []) e) 1
-    unfolding next if◌then◌else◌ is_within after_all start needs_of need_of done_entry
+    unfolding next is_within after_all start needs_of need_of done_entry
     turned full =
         let third : 2 < 4 = omega arith in
         write-by 64 big most (is-value v) 4 im 1 f.rests (one-turn full)
@@ -110,7 +109,7 @@ module _ (least longest : ℕ) (some_bytes : 1 ≤ least) (k : ℕ) (fits : k �
   runs m [] c f sized room full = absurd (omega arith)
   runs zero (v ∷ []) {image} {im} {es} c f sized room full =
       let what = due-on 1024 4 c (write_of v) ∙ turned f v (omega (arith, suc-mul 0 k)) in
-      ap (λ (d : Due). answer d plenty ∷ []) what ∙ simp (turned-length f v, le-leb (3 + k) plenty (omega arith), if-true)
+      ap (λ (d : Due). answer d plenty ∷ []) what ∙ simp (turned-length f v, le-leb (3 + k) plenty (omega arith))
   runs zero (v ∷ v' ∷ vs) c f sized room full = absurd (omega arith)
   runs (suc m) (v ∷ vs) {image} {im} {es} c f sized room full =
       let x : IsValue 64 v.id v.bytes = is-value v in
@@ -124,7 +123,7 @@ module _ (least longest : ℕ) (some_bytes : 1 ≤ least) (k : ℕ) (fits : k �
       let rest = runs m vs left (subst (λ (ss : List Store). Filled 64 2 (apply ss im) (es ++ (value_entry v.id v.bytes ∷ []))) (sym all) (write-more 64 big most x 2 f here)) (omega arith)
       (omega (arith, suc-mul m k)) (omega (arith, suc-mul (suc m) k)) in
       ap (λ (d : Due). answer d plenty ∷ answers 1024 4 (leaves 1024 d plenty image) (map write_of vs)) what
-      ∙ simp (count, le-leb k plenty (omega arith), if-true) (ap (λ (l : List Answer). done k 0 ∷ l) rest)
+      ∙ simp (count, le-leb k plenty (omega arith)) (ap (λ (l : List Answer). done k 0 ∷ l) rest)
 
 pub sixty-writes : (image : List ℕ) (values : List (UserValue 1 8)) → Fresh 1024 4 image → length values ≡ 60
     → answers 1024 4 image (map write_of values) ≡ replicate 59 (done 1 0) ++ (done 4 1 ∷ [])

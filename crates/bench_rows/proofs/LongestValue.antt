@@ -1,4 +1,5 @@
 -- How long a value may be: B-6 data blocks. Longer ones are refused, and in a fresh store every other one lands.
+use Rattle.std.specs.Prelude.{if◌then◌else◌}
 use mathlib.Core.Path.{◌≡◌, refl, sym, ap, ◌∙◌}
 use mathlib.Core.Bool.{Bool, true, false}
 use mathlib.Core.List.{List, [], ◌∷◌}
@@ -9,7 +10,7 @@ use native.Mathlib.Omega.{arith}
 use lib.Dec.{leb, ltb}
 use lib.ListN.{length, length-append}
 use borrow.Author.Tests.{lt-ltb, le-ltb, ltb-true, ltb-false, ne_eqb, le-leb, leb-true, leb-false}
-use Rattle.rules.specs.Notation.{if◌then◌else◌, is_empty}
+use Rattle.rules.specs.Notation.{is_empty}
 use Rattle.rules.specs.Ground.{Block, Image, block_size, reserved_id, legal_sizes, image_of, kept_from_values}
 use Rattle.rules.specs.Look.{data_blocks, need_of}
 use Rattle.rules.specs.Reading.{Entry}
@@ -18,7 +19,6 @@ use Rattle.rules.specs.Stores.{Store, apply, nothing, ◌and_then◌, data_store
 use Rattle.rules.specs.Calls.{Due, make, refuse, too_long, no_room, refusal_number, answer, answer_numbers, in_rest, change_on, write_on, write_due}
 use Rattle.rules.specs.Demands.{plenty}
 use Rattle.bench_rows.specs.BenchSheet.{Longest}
-use Rattle.rules.proofs.Basics.Notation.{if-true, if-false}
 use Rattle.rules.proofs.Format.Ground.{length-pieces, legal-bounds}
 use Rattle.rules.proofs.Format.Look.{need-blocks}
 use Rattle.rules.proofs.Blocks.OnBytes.{HasBlocks, call-on}
@@ -82,18 +82,18 @@ module _ (B S : ℕ) (im : Image) (id : ℕ) (value : List ℕ) (user : id ≡ r
       ≡ (if ltb (B - kept_from_values) (1 + data_blocks (length value)) then refuse too_long
       else in_rest (state_of (views_of B im)) refuse (λ w. change_on B S w (B - kept_from_values) (value_entry id value) im))
   unfolding write_on value_entry need_of
-  write_checked = simp (ne_eqb id reserved_id user, not-empty value some_bytes, if-false)
+  write_checked = simp (ne_eqb id reserved_id user, not-empty value some_bytes)
 
   -- and after check 6
   pub write-fits : 1 + data_blocks (length value) ≤ B - kept_from_values
       → write_on B S im id value ≡ in_rest (state_of (views_of B im)) refuse (λ w. change_on B S w (B - kept_from_values) (value_entry id value) im)
-  write-fits h = write_checked ∙ simp (le-ltb (B - kept_from_values) (1 + data_blocks (length value)) h, if-false)
+  write-fits h = write_checked ∙ simp (le-ltb (B - kept_from_values) (1 + data_blocks (length value)) h)
 
   refuses-longer : 8 ≤ B → (write_on B S im id value ≡ refuse too_long) ↔ ((B - 6) * block_size < length value)
   unfolding number refusal_number
   refuses-longer enough = (
     λ h. go (ltb ((B - 6) * block_size) (length value)) h refl,
-    λ h. write_checked ∙ simp (lt-ltb (B - kept_from_values) (1 + data_blocks (length value)) (too_long_lem B (length value) enough h), if-true),
+    λ h. write_checked ∙ simp (lt-ltb (B - kept_from_values) (1 + data_blocks (length value)) (too_long_lem B (length value) enough h)),
   )
     where
       go : (b : Bool) → write_on B S im id value ≡ refuse too_long → ltb ((B - 6) * block_size) (length value) ≡ b → (B - 6) * block_size < length value
@@ -124,7 +124,7 @@ module _ (B S : ℕ) (blocks : 8 ≤ B) (few : B ≤ 4096) (sectors : 2 ≤ S) (
     (fits : 1 + data_blocks (length value) ≤ B - kept_from_values) where
   no-turn : least_turns (need_of (value_entry id value).head) (B - kept_from_values) 0 (views_of B (final_image B 0 S)) ≡ some 0
   unfolding least_turns first_fit value_entry need_of
-  no-turn = simp (open-needs B S blocks sectors, le-leb (0 + (1 + data_blocks (length value))) (B - kept_from_values) (omega arith), if-true)
+  no-turn = simp (open-needs B S blocks sectors, le-leb (0 + (1 + data_blocks (length value))) (B - kept_from_values) (omega arith))
 
   succeeds : write_on B S (final_image B 0 S) id value ≡ make (append B 0 (value_entry id value) (final_image B 0 S)) 0
   unfolding in_rest turned change turns moved ◌and_then◌ nothing apply
@@ -136,7 +136,7 @@ module _ (B S : ℕ) (blocks : 8 ≤ B) (few : B ≤ 4096) (sectors : 2 ≤ S) (
       let stores : List Store = append B 0 (value_entry id value) (final_image B 0 S) in
       let data-blocks : length (value_entry id value).blocks ≡ data_blocks (length value) = length-pieces (data_blocks (length value)) block_size _ in
       let enough : length stores ≤ plenty = omega (arith, append-length B 0 (value_entry id value) (final_image B 0 S)) in
-      ap (λ (d : Due). (answer_numbers (answer d plenty)).number) succeeds ∙ simp (le-leb (length stores) plenty enough, if-true)
+      ap (λ (d : Due). (answer_numbers (answer d plenty)).number) succeeds ∙ simp (le-leb (length stores) plenty enough)
 
 -- Bench sheet, row 1, at any legal sizes.
 pub longest-value : (size count longest : ℕ) → legal_sizes size count (count * size) ≡ true → longest ≡ (size / block_size - 6) * block_size → Longest size count longest

@@ -14,7 +14,6 @@ use Rattle.rules.specs.Reading.{Entry, View, view_of, after_all, end_block}
 use Rattle.rules.specs.Meaning.{views_of, view_at, next, all_but, live_each}
 use Rattle.rules.specs.Stores.{Store, Kind, apply, nothing, ◌and_then◌, append, close_sector, done_entry, survivors, finish_turn, turn, turns, moved, change}
 use Rattle.rules.proofs.Terms.{IsImage, IsInside, IsProper, IsAtomic, closed_view, changed}
-use Rattle.rules.proofs.Basics.Notation.{if-false}
 use Rattle.rules.proofs.Blocks.OnImage.{view-at, apply-image, store_other}
 use Rattle.rules.proofs.Blocks.Formatted.{final_image}
 use Rattle.rules.proofs.Blocks.FormattedViews.{empty_view, at_other}
@@ -94,7 +93,7 @@ module _ (B n : ℕ) (big : 8 ≤ B) (most : B ≤ 4096) {im : Image} {es : List
     -- the sector after the first one
     next-first : next S 0 ≡ 1
     unfolding next
-    next-first = simp (ne_eqb 1 S (λ same. omega arith), if-false)
+    next-first = simp (ne_eqb 1 S (λ same. omega arith))
 
     turns-by : turn B S 0 im ≡ close_store B 0 ∷ finish_stores B 1 1 o copies
     unfolding turn ◌and_then◌

@@ -17,7 +17,6 @@ use Rattle.rules.specs.Meaning.{views_of, state_of}
 use Rattle.rules.specs.Stores.{Store, Kind, apply, blank_store, blank_if, reopen, next_cycle, format}
 use Rattle.rules.specs.Calls.{Due, make, refuse, geometry, no_store, Answer, answer, made, in_state, leaves, Reply, format_due, mount_due, write_due, delete_due, read, format_on, mount_on, write_on, delete_on, read_on}
 use Rattle.bench_rows.specs.BenchSheet.{ReopensAt0, OffSizes}
-use Rattle.rules.proofs.Basics.Notation.{if-false}
 use Rattle.rules.proofs.Format.Ground.{legal-bounds, size-112, size-136, size-65552, one-sector, sixty-five-sectors}
 use Rattle.rules.proofs.Format.Look.{blank-no-lead}
 use Rattle.rules.proofs.Format.Entry.{cycle-encode}
@@ -102,7 +101,7 @@ illegal-sizes = (
 no-first-lead : (B : ℕ) (im : Image) → 0 < length im → B - 1 < length (get_or im 0 []) → state_of (views_of B (store im 0 (B - 1) blank_block)) ≡ none
 unfolding state_of views_of view_of store all
 no-first-lead B [] some-sector some_block = absurd (omega arith)
-no-first-lead B (x ∷ xs) some-sector some_block = simp (get_or-set_same x (B - 1) blank_block [] some_block, blank-no-lead, if-false)
+no-first-lead B (x ∷ xs) some-sector some_block = simp (get_or-set_same x (B - 1) blank_block [] some_block, blank-no-lead)
 
 each_first {ℓ κ} : {A : Type ℓ} {P : A → Type κ} {x : A} {xs : List A} → Each P (x ∷ xs) → Each P (x ∷ [])
 each_first (each p ps) = each p empty

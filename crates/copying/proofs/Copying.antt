@@ -17,7 +17,7 @@ use Rattle.rules.specs.Reading.{Entry, View, is_long, view_of}
 use Rattle.rules.specs.Meaning.{is_value, length_in, value_of, view_at}
 use Rattle.rules.specs.Stores.{entry_block, data_stores}
 use Rattle.rules.proofs.Terms.{HeadFits, IsProper}
-use Rattle.rules.proofs.Basics.Notation.{if-true, if-false, by-test}
+use Rattle.rules.proofs.Basics.Notation.{by-test}
 use Rattle.rules.proofs.Basics.Lists.{part-of-take, length_part}
 use Rattle.rules.proofs.Basics.Parts.{each_at, each_take}
 use Rattle.rules.proofs.Basics.Places.{at_each}
@@ -109,7 +109,7 @@ module _ (B : ℕ) (bytes : List ℕ) (sized : length bytes ≡ B * block_size) 
   small_bytes few =
       let len : ℕ = length_of block in
       let own = lies.own in
-      let kept : take (length_in e.head) e.inline ≡ value_of e = sym (simp (not-long few, if-false)) in
+      let kept : take (length_in e.head) e.inline ≡ value_of e = sym (simp (not-long few)) in
       let there : take len (drop 8 block) ≡ take len (drop (p * block_size + 8) bytes) =
       ap (λ (b : Block). take len (drop 8 b)) own
       ∙ part-of-take len 8 block_size (drop (p * block_size) bytes) (omega arith)
@@ -135,13 +135,13 @@ module _ (B : ℕ) (bytes : List ℕ) (sized : length bytes ≡ B * block_size) 
         again
         ∙ copied-small cycle data_end (id_of block) (length_of block) e.inline e.blocks few whole padded
         ∙ ap (small_value_block cycle (id_of block)) (small_bytes few)
-        ∙ sym (simp (small, if-true)))
+        ∙ sym (simp small))
         (λ large.
         let many : 8 < length_of block = leb-false (length_of block) 8 large in
         again
         ∙ copied-long cycle data_end (id_of block) (length_of block) e.inline e.blocks many (long-fits fits many) proper.bytes
         ∙ ap (long_value_block cycle (id_of block) (length_of block) (data_end * block_size)) (far many).check
-        ∙ sym (simp (large, if-false)))
+        ∙ sym (simp large))
 
   -- all of it
   pub copied_at : Copied B (sector_of B bytes) (get_or (sector_of B bytes) p []) e
@@ -154,15 +154,15 @@ module _ (B : ℕ) (bytes : List ℕ) (sized : length bytes ≡ B * block_size) 
       record {
         head = head;
         blocks = small-blocks few ∙ ap (λ (n : ℕ). take n (drop (first_of block) (sector_of B bytes))) (sym none);
-        inside = simp (small, if-true) (omega (arith, none));
+        inside = simp small (omega (arith, none));
         bytes = copy-bytes;
       })
       (λ large.
       let many : 8 < length_of block = leb-false (length_of block) 8 large in
       record {
         head = head;
-        blocks = simp (large, if-false) (long-blocks many);
-        inside = simp (large, if-false) (data-within many);
+        blocks = simp large (long-blocks many);
+        inside = simp large (data-within many);
         bytes = copy-bytes;
       })
 

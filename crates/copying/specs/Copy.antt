@@ -1,6 +1,5 @@
 -- A value as a copy takes it: by the fields of its entry's block, and the block's bytes at another place.
-use Rattle.std.specs.Prelude.{List, ℕ, ◌*◌, ◌/◌, leb, get_or, take, drop}
-use Rattle.rules.specs.Notation.{if◌then◌else◌}
+use Rattle.std.specs.Prelude.{List, ℕ, ◌*◌, ◌/◌, leb, get_or, take, drop, if◌then◌else◌}
 use Rattle.rules.specs.Ground.{Block, block_size}
 use Rattle.rules.specs.Entry.{length_of, id_of, offset_of, crc32_of, small_value_block, long_value_block}
 use Rattle.rules.specs.Reading.{Entry}

@@ -13,7 +13,7 @@ use Rattle.rules.specs.Notation.{all, places_from}
 use Rattle.rules.specs.Ground.{max_sectors}
 use Rattle.rules.specs.Reading.{View}
 use Rattle.rules.specs.Meaning.{no_view, view_at, is_working, is_unfinished, state_by, state_of}
-use Rattle.rules.proofs.Basics.Notation.{if-true, if-false, if-cases, refuted}
+use Rattle.rules.proofs.Basics.Notation.{if-cases, refuted}
 use Rattle.rules.proofs.Basics.Places.{all-each, each_all, one_place, here-or}
 use Rattle.mask.specs.declared.Mask.{Mask}
 use Rattle.mask.specs.Flags.{flags_of, sectors_in, Holds}
@@ -77,7 +77,7 @@ module _ (views : List View) where
     unfolding state_of view_at
     surveyed-state =
         let led : all (λ (v : View). v.led) views ≡ true = each_all (λ (v : View). v.led) no_view views (λ t h. k.led t (omega arith)) in
-        rw (surveyed-working, surveyed-unfinished, led, if-true)
+        rw (surveyed-working, surveyed-unfinished, led)
 
   -- a sector without a right lead: no store
   module _ (s : ℕ) (here : s < length views) (wrong : (view_at views s).led ≡ false) where
@@ -86,4 +86,4 @@ module _ (views : List View) where
     no_store_lem =
         let not-all : all (λ (v : View). v.led) views ≡ false =
         refuted (all (λ (v : View). v.led) views) (λ e. false≢true (sym wrong ∙ all-each (λ (v : View). v.led) no_view views e s here)) in
-        rw (not-all, if-false)
+        rw not-all

@@ -1,7 +1,6 @@
 -- The crate's types beside the plain data of the rules: `..Of` reads one as the other, `..As` gives the answer for it.
-use Rattle.std.specs.Prelude.{◌≡◌, Bool, true, false, List, [], ℕ, ◌<◌, length, set}
+use Rattle.std.specs.Prelude.{◌≡◌, Bool, true, false, List, [], ℕ, ◌<◌, length, set, if◌then◌else◌}
 use Rattle.std.proofs.Math.Option.{Option, none, some}
-use Rattle.rules.specs.Notation.{if◌then◌else◌}
 use Rattle.rules.specs.Ground.{image_of}
 use Rattle.rules.specs.Look.{done, start}
 use Rattle.rules.specs.Reading.{Entry, View, after_all}

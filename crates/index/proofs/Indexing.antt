@@ -18,7 +18,6 @@ use Rattle.rules.specs.Ground.{reserved_id}
 use Rattle.rules.specs.Reading.{Entry}
 use Rattle.rules.specs.Meaning.{is_named}
 use Rattle.rules.specs.Stores.{id_in}
-use Rattle.rules.proofs.Basics.Notation.{if-true, if-false}
 use Rattle.rules.proofs.Basics.Places.{here-or}
 use Rattle.rules.proofs.Ring.Newest.{named-id}
 use Rattle.mask.specs.Marks.{max_marks}
@@ -40,11 +39,11 @@ bucket_at es n = bucket_of (id_in (get_or es n no_entry).head)
 module _ (b : ℕ) (es : List Entry) where
   last-in-here : (n : ℕ) → bucket_at es n ≡ b → link_to (last_in b (suc n) es) ≡ suc n
   unfolding last_in link_to
-  last-in-here n same = rw (eq-eqb _ _ same, if-true)
+  last-in-here n same = rw (eq-eqb _ _ same)
 
   last-in-below : (n : ℕ) → (bucket_at es n ≡ b → ⊥) → last_in b (suc n) es ≡ last_in b n es
   unfolding last_in
-  last-in-below n other = rw (ne_eqb _ _ other, if-false)
+  last-in-below n other = rw (ne_eqb _ _ other)
 
 -- ---- down along a bucket
 

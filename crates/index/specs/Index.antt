@@ -1,7 +1,6 @@
 -- The index of a sector's entries: the newest one of each bucket, and for each entry the next older one of its bucket.
-use Rattle.std.specs.Prelude.{◌≡◌, List, ℕ, zero, suc, ◌*◌, ◌/◌, ◌%◌, ◌≤◌, ◌<◌, eqb, length, get_or}
+use Rattle.std.specs.Prelude.{◌≡◌, List, ℕ, zero, suc, ◌*◌, ◌/◌, ◌%◌, ◌≤◌, ◌<◌, eqb, length, get_or, if◌then◌else◌}
 use Rattle.std.proofs.Math.Option.{Option, none, some}
-use Rattle.rules.specs.Notation.{if◌then◌else◌}
 use Rattle.rules.specs.Reading.{Entry}
 use Rattle.rules.specs.Stores.{id_in}
 use Rattle.mask.specs.Marks.{max_marks}

@@ -1,5 +1,6 @@
 -- What a geometry gives its callers: legal sizes back an image of their length, and a store keeps it so.
 -- Assumes nothing.
+use Rattle.std.specs.Prelude.{if◌then◌else◌}
 use mathlib.Core.Path.{◌≡◌, refl, sym, ap, ◌∙◌}
 use mathlib.Core.Bool.{Bool, true, false}
 use mathlib.Core.List.{List}
@@ -7,7 +8,6 @@ use Prim.Native.Nat.{ℕ, ◌+◌, ◌*◌, ◌/◌, ◌<◌}
 use native.Mathlib.Nat.{mul-le-mul}
 use native.Mathlib.Omega.{arith}
 use lib.ListN.{length}
-use Rattle.rules.specs.Notation.{if◌then◌else◌}
 use Rattle.rules.specs.Ground.{block_size, legal_sizes, image_of, block_at, place_of, store_bytes}
 use Rattle.rules.proofs.Basics.Notation.{took-else}
 use Rattle.rules.proofs.Format.Ground.{IsLegal, legal-true, legal-false, legal-bounds, length-store-bytes, read-block, length-block-bytes}
@@ -35,11 +35,11 @@ block-sized g image s b k here inside =
 
 pub sizes-legal : (size count len : ℕ) → IsLegal size count len
     → Legal (record { blocks = size / block_size; sectors = count }) ≡ sizes_of size count len
-unfolding sizes_of if◌then◌else◌
+unfolding sizes_of
 sizes-legal size count len l = rw (legal-true size count len l)
 
 pub sizes-illegal : (size count len : ℕ) → (IsLegal size count len → ⊥) → Illegal ≡ sizes_of size count len
-unfolding sizes_of if◌then◌else◌
+unfolding sizes_of
 sizes-illegal size count len n = rw (legal-false size count len n)
 
 -- ---- the facts by the answer
@@ -51,7 +51,7 @@ pub record From (size count len : ℕ) (g : Geometry) : Type 0 where
   pub sectors : sectors_of g ≡ count
 
 pub from-sizes : (size count len : ℕ) (g : Geometry) → sizes_of size count len ≡ Legal g → From size count len g
-unfolding sizes_of if◌then◌else◌
+unfolding sizes_of
 from-sizes size count len g e = go (legal_sizes size count len) refl e
   where
     made : Geometry

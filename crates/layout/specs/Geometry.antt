@@ -1,6 +1,5 @@
 -- The sizes of a store: how many blocks a sector has, how many sectors there are, and which bytes have that size.
-use Rattle.std.specs.Prelude.{◌≡◌, List, ℕ, ◌*◌, ◌/◌, ◌≤◌, length}
-use Rattle.rules.specs.Notation.{if◌then◌else◌}
+use Rattle.std.specs.Prelude.{◌≡◌, List, ℕ, ◌*◌, ◌/◌, ◌≤◌, length, if◌then◌else◌}
 use Rattle.rules.specs.Ground.{block_size, min_sectors, max_sectors, legal_sizes}
 use Rattle.layout.specs.declared.Geometry.{Geometry}
 use Rattle.layout.specs.declared.Sizes.{Sizes}

@@ -13,7 +13,7 @@ use Rattle.rules.specs.Entry.{id_of, length_of}
 use Rattle.rules.specs.Look.{Head, value, data_blocks, need_of}
 use Rattle.rules.specs.Reading.{Entry}
 use Rattle.rules.specs.Meaning.{view_at, is_value}
-use Rattle.rules.proofs.Basics.Notation.{by-test, if-true, if-false, refuted, both_true}
+use Rattle.rules.proofs.Basics.Notation.{by-test, refuted, both_true}
 use Rattle.rules.proofs.Blocks.Lying.{head_by}
 use Rattle.layout.specs.declared.Geometry.{Geometry}
 use Rattle.layout.specs.declared.Sector.{Sector}
@@ -52,21 +52,21 @@ module _ (g : Geometry) (bytes : List ℕ) (backs : Backs g bytes) (s n : ℕ) (
 
     pub reserved-renews : id_of (entry_block g bytes s n) ≡ reserved_id → renewed_by (get_or (view_at (views_in g bytes) s).entries n no_entry).head count es ≡ none
     unfolding renewed_by head_by
-    reserved-renews reserved = renewed-by-fields ∙ rw (eq-eqb _ reserved_id reserved, if-true)
+    reserved-renews reserved = renewed-by-fields ∙ rw (eq-eqb _ reserved_id reserved)
 
     pub user-renews : (id_of (entry_block g bytes s n) ≡ reserved_id → ⊥)
         → renewed_by (get_or (view_at (views_in g bytes) s).entries n no_entry).head count es ≡ last_named_below (id_of (entry_block g bytes s n)) count es
     unfolding renewed_by head_by
     user-renews user =
-        renewed-by-fields ∙ rw (ne_eqb _ reserved_id user, if-false)
-        (by-test (eqb (length_of (entry_block g bytes s n)) 0) (λ t. rw (t, if-true)) (λ f. rw (f, if-false)))
+        renewed-by-fields ∙ rw (ne_eqb _ reserved_id user)
+        (by-test (eqb (length_of (entry_block g bytes s n)) 0) (λ t. rw t) (λ f. rw f))
 
   -- ---- a live value needs a block and its data blocks
 
   value-head : (id_of (entry_block g bytes s n) ≡ reserved_id → ⊥) → (length_of (entry_block g bytes s n) ≡ 0 → ⊥)
       → (get_or (view_at (views_in g bytes) s).entries n no_entry).head ≡ value (id_of (entry_block g bytes s n)) (length_of (entry_block g bytes s n))
   unfolding head_by
-  value-head user filled = (entry-lies g bytes backs s n inside here).head ∙ rw (ne_eqb _ reserved_id user, ne_eqb _ 0 filled, if-false, if-false)
+  value-head user filled = (entry-lies g bytes backs s n inside here).head ∙ rw (ne_eqb _ reserved_id user, ne_eqb _ 0 filled)
 
   pub live-need : (u : ℕ) → get_or (live_flags_in u s (views_in g bytes)) n false ≡ true
       → need_of (get_or (view_at (views_in g bytes) s).entries n no_entry).head ≡ 1 + data_blocks (length_of (entry_block g bytes s n))

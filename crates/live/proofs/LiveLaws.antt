@@ -1,5 +1,6 @@
 -- What a caller learns of the flags of live values: the entries whose flag is set are the live values, and one flag tells of one entry.
 -- Assumes nothing.
+use Rattle.std.specs.Prelude.{cond, if◌then◌else◌}
 use mathlib.Core.Path.{◌≡◌, refl, ap, ◌∙◌}
 use mathlib.Core.Bool.{Bool, true, false}
 use mathlib.Core.List.{List, [], ◌∷◌, ◌++◌}
@@ -9,10 +10,8 @@ use native.Mathlib.Numerals.{add-one}
 use native.Mathlib.Omega.{arith}
 use lib.ListN.{length, get_or, drop, drop_of_length-le}
 use lib.Seq.{drop-cons}
-use Rattle.rules.specs.Notation.{if◌then◌else◌}
 use Rattle.rules.specs.Reading.{Entry, View}
 use Rattle.rules.specs.Meaning.{view_at, entries_in, newer_than, live_among, live_in}
-use Rattle.rules.proofs.Basics.Notation.{if-true, if-false}
 use Rattle.rules.proofs.Ring.Live.{is_live}
 use Rattle.live.specs.Live.{live_flags, live_flags_in}
 
@@ -22,23 +21,23 @@ module _ {ℓ} {A : Type ℓ} where
   unfoldable pub chosen : List Bool → List A → List A
   chosen [] xs = []
   chosen (f ∷ fs) [] = []
-  chosen (f ∷ fs) (x ∷ xs) = if f then x ∷ chosen fs xs else chosen fs xs
+  chosen (f ∷ fs) (x ∷ xs) = cond f (x ∷ chosen fs xs) (chosen fs xs)
 
   -- from place n on
   module _ (flags : List Bool) (xs : List A) (same : length flags ≡ length xs) where
     module _ (n : ℕ) (d : A) (here : n < length xs) where
       next-chosen : chosen (drop n flags) (drop n xs)
-          ≡ (if get_or flags n false then get_or xs n d ∷ chosen (drop (n + 1) flags) (drop (n + 1) xs) else chosen (drop (n + 1) flags) (drop (n + 1) xs))
+          ≡ cond (get_or flags n false) (get_or xs n d ∷ chosen (drop (n + 1) flags) (drop (n + 1) xs)) (chosen (drop (n + 1) flags) (drop (n + 1) xs))
       unfolding chosen
       next-chosen =
           let flag : n < length flags = omega arith in
           rw (add-one, drop-cons flags n false flag, drop-cons xs n d here)
 
       pub chosen-here : get_or flags n false ≡ true → chosen (drop n flags) (drop n xs) ≡ get_or xs n d ∷ chosen (drop (n + 1) flags) (drop (n + 1) xs)
-      chosen-here is = next-chosen ∙ rw (is, if-true)
+      chosen-here is = next-chosen ∙ rw is
 
       pub chosen-passed : get_or flags n false ≡ false → chosen (drop n flags) (drop n xs) ≡ chosen (drop (n + 1) flags) (drop (n + 1) xs)
-      chosen-passed is = next-chosen ∙ rw (is, if-false)
+      chosen-passed is = next-chosen ∙ rw is
 
     pub chosen-end : (n : ℕ) → length xs ≤ n → chosen (drop n flags) (drop n xs) ≡ []
     unfolding chosen

@@ -1,5 +1,6 @@
 -- The sectors newer than one, passed one after the other round the ring up to the one that is ignored.
 -- Assumes nothing.
+use Rattle.std.specs.Prelude.{if◌then◌else◌}
 use mathlib.Core.Path.{◌≡◌, sym, ap, ◌∙◌}
 use mathlib.Core.List.{List, [], ◌∷◌, ◌++◌, append_assoc, append-nil}
 use mathlib.Core.Logic.{⊎_elim, by_cases}
@@ -10,17 +11,15 @@ use lib.Dec.{ltb}
 use lib.ListN.{length, get_or, drop, drop_of_length-le}
 use lib.Seq.{drop-cons}
 use borrow.Author.Tests.{lt-ltb, le-ltb}
-use Rattle.rules.specs.Notation.{if◌then◌else◌}
 use Rattle.rules.specs.Reading.{Entry, View}
 use Rattle.rules.specs.Meaning.{no_view, view_at, next, ring_sector, all_but, entries_in, newer_than}
-use Rattle.rules.proofs.Basics.Notation.{if-true, if-false}
 use Rattle.rules.proofs.Ring.Order.{next-cases, length-all_but}
 use Rattle.rules.proofs.Ring.Newest.{ring-lt, ring-up, ring-other, ring-view, RingPlace, ring-place}
 
 -- u itself has the place behind all others
 ring-ignored : (S u : ℕ) → u < S → ring_sector S u (S - 1) ≡ u
 unfolding ring_sector
-ring-ignored S u here = simp (le-ltb (u + 1 + (S - 1)) S (omega arith), if-false) (omega arith)
+ring-ignored S u here = simp (le-ltb (u + 1 + (S - 1)) S (omega arith)) (omega arith)
 
 -- ---- how many sectors are left from t up to u
 
@@ -29,11 +28,11 @@ sectors_left S u t = if ltb u t then S + u - t else u - t
 
 left_behind : (S u t : ℕ) → u < t → sectors_left S u t ≡ S + u - t
 unfolding sectors_left
-left_behind S u t h = rw (lt-ltb u t h, if-true)
+left_behind S u t h = rw (lt-ltb u t h)
 
 left-before : (S u t : ℕ) → t ≤ u → sectors_left S u t ≡ u - t
 unfolding sectors_left
-left-before S u t h = rw (le-ltb u t h, if-false)
+left-before S u t h = rw (le-ltb u t h)
 
 pub fewer-left : (S u t : ℕ) → u < S → t < S → (t ≡ u → ⊥) → sectors_left S u (next S t) < sectors_left S u t
 fewer-left S u t here inside other =

@@ -1,5 +1,6 @@
 -- What a mask gives its callers: how the flags grow from sector to sector, and the sectors in the mask as places of a test.
 -- Assumes nothing.
+use Rattle.std.specs.Prelude.{if◌then◌else◌}
 use mathlib.Core.Path.{◌≡◌, refl, sym, ap, ◌∙◌}
 use mathlib.Core.Bool.{Bool, true, false, false≢true}
 use mathlib.Core.List.{List, [], ◌∷◌, ◌++◌, map, map-append}
@@ -11,7 +12,7 @@ use lib.Dec.{eqb}
 use lib.ListN.{length, get_or, set, take, replicate, length-append, length-map}
 use lib.Seq.{length-take-le, take-suc}
 use borrow.Author.Tests.{ne_eqb}
-use Rattle.rules.specs.Notation.{if◌then◌else◌, is_empty, places_from}
+use Rattle.rules.specs.Notation.{is_empty, places_from}
 use Rattle.rules.specs.Ground.{max_sectors}
 use Rattle.mask.specs.declared.Mask.{Mask}
 use Rattle.mask.specs.Flags.{flags_of, sectors_in, is_singleton, padded, Holds}
@@ -63,7 +64,7 @@ places-map test k (x ∷ xs) =
 -- flags that are not set add no place
 places-padded : (k n : ℕ) (flags : List Bool)
     → places_from k (λ (f : Bool). f) (flags ++ replicate n false) ≡ places_from k (λ (f : Bool). f) flags
-unfolding places_from if◌then◌else◌
+unfolding places_from
 places-padded k zero [] = refl
 places-padded k (suc n) [] = places-padded (suc k) n []
 places-padded k n (f ∷ fs) =

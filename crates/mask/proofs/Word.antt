@@ -14,7 +14,6 @@ use lib.Dec.{eqb}
 use lib.ListN.{length, set}
 use borrow.Author.Tests.{eq-eqb, ne_eqb}
 use Rattle.rules.specs.Notation.{is_empty, places_from}
-use Rattle.rules.proofs.Basics.Notation.{if-true, if-false}
 use Rattle.mask.specs.Flags.{bits_of, is_singleton}
 use Rattle.mask.proofs.Laws.{singleton-true, singleton-length}
 
@@ -32,11 +31,11 @@ digit n = by_cases (ℕ_discrete (n % 2) 0) inl (λ e. inr (omega arith))
 
 places-even : (k d n : ℕ) → n % 2 ≡ 0 → places_in k (suc d) n ≡ places_in (suc k) d (n / 2)
 unfolding places_from bits_of
-places-even k d n e = simp (ne_eqb (n % 2) 1 (λ o. omega arith), if-false)
+places-even k d n e = simp (ne_eqb (n % 2) 1 (λ o. omega arith))
 
 places-odd : (k d n : ℕ) → n % 2 ≡ 1 → places_in k (suc d) n ≡ k ∷ places_in (suc k) d (n / 2)
 unfolding places_from bits_of
-places-odd k d n e = simp (eq-eqb (n % 2) 1 e, if-true)
+places-odd k d n e = simp (eq-eqb (n % 2) 1 e)
 
 -- ---- a bit is set
 

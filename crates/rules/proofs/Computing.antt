@@ -1,6 +1,6 @@
 -- What is shown by computing: one hub that opens every definition, and worked examples on 2 sectors of 8 blocks.
 use Prim.Native.Nat.{ℕ}
-use Rattle.rules.specs.Notation.{if◌then◌else◌, when, times, pieces, bytes_of, number_of, erased, is_erased, concat, is_empty, any, all, select, places_from}
+use Rattle.rules.specs.Notation.{when, times, pieces, bytes_of, number_of, erased, is_erased, concat, is_empty, any, all, select, places_from}
 use Rattle.rules.specs.Ground.{legal_sizes, sector_of, image_of, blank_block, block_at, store, place_of, store_bytes, Block, Sector, Image, reserved_id}
 use Rattle.rules.specs.Checksum.{crc, step8, crc8, step32, crc32}
 use Rattle.rules.specs.Entry.{check_of, cycle_of, length_of, id_of, body_of, offset_of, crc32_of, fields, sealed, encode, numbers, lead_block, close_block, done_block, small_value_block}
@@ -17,7 +17,7 @@ use lib.ListN.{replicate}
 
 -- all definitions opened at once: `unfolding computing` lets a statement compute
 unfoldable pub computing : ℕ
-unfolding if◌then◌else◌ when times pieces bytes_of number_of erased is_erased concat is_empty any all select places_from
+unfolding when times pieces bytes_of number_of erased is_erased concat is_empty any all select places_from
     legal_sizes sector_of image_of blank_block block_at store
     crc step8 crc8 step32 crc32
     check_of cycle_of length_of id_of body_of offset_of crc32_of fields sealed encode numbers lead_block close_block done_block

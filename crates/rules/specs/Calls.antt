@@ -1,7 +1,7 @@
 -- "Numbers given back": the five calls, their checks in order, their answers, and what they leave.
-use Rattle.std.specs.Prelude.{List, [], ◌++◌, ℕ, ◌-◌, ◌/◌, eqb, leb, ltb, length, take, drop}
+use Rattle.std.specs.Prelude.{List, [], ◌++◌, ℕ, ◌-◌, ◌/◌, eqb, leb, ltb, length, take, drop, if◌then◌else◌, cond}
 use Rattle.std.proofs.Math.Option.{Option, none, some}
-use Rattle.rules.specs.Notation.{if◌then◌else◌, is_empty}
+use Rattle.rules.specs.Notation.{is_empty}
 use Rattle.rules.specs.Ground.{Image, legal_sizes, image_of, block_size, reserved_id, kept_from_values, kept_from_deletions}
 use Rattle.rules.specs.Look.{need_of}
 use Rattle.rules.specs.Reading.{Entry}
@@ -107,7 +107,7 @@ read_on B S im id buffer_length =
 -- 1 geometry: "sizes, count or image length off"
 unfoldable pub at_sizes {ℓ} : {A : Type ℓ} → (size count : ℕ) → List ℕ → (Refusal → A) → ((B S : ℕ) → Image → A) → A
 at_sizes size count bytes refusal call =
-    if legal_sizes size count (length bytes) then call (size / block_size) count (image_of (size / block_size) count bytes) else refusal geometry
+    cond (legal_sizes size count (length bytes)) (call (size / block_size) count (image_of (size / block_size) count bytes)) (refusal geometry)
 
 -- The five calls.
 unfoldable pub format_due : (size count : ℕ) → List ℕ → Due

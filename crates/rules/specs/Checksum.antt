@@ -1,7 +1,7 @@
 -- Both checksums of "The entry", over one step for a bit.
-use Rattle.std.specs.Prelude.{List, [], ◌∷◌, ℕ, ◌*◌, ◌-◌, ◌/◌, ◌%◌, ltb, eqb}
+use Rattle.std.specs.Prelude.{List, [], ◌∷◌, ℕ, ◌*◌, ◌-◌, ◌/◌, ◌%◌, ltb, eqb, if◌then◌else◌}
 use Rattle.std.specs.Int.Bits.{bit_xor}
-use Rattle.rules.specs.Notation.{if◌then◌else◌, times}
+use Rattle.rules.specs.Notation.{times}
 
 -- A CRC of a list of bytes: each byte is xored in, and then the step for a bit is made eight times.
 unfoldable pub crc : (step : ℕ → ℕ) (start : ℕ) → List ℕ → ℕ

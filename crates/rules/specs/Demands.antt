@@ -1,7 +1,7 @@
 -- "The plain book of demand 3", and demand 2's read-back, as statements about the five calls.
-use Rattle.std.specs.Prelude.{◌≡◌, true, List, [], ◌∷◌, ◌++◌, ◌↔◌, ℕ, ◌+◌, ◌-◌, ◌/◌, ◌<◌, ◌≤◌, ◌^◌, eqb, length, get_or, drop}
+use Rattle.std.specs.Prelude.{◌≡◌, true, List, [], ◌∷◌, ◌++◌, ◌↔◌, ℕ, ◌+◌, ◌-◌, ◌/◌, ◌<◌, ◌≤◌, ◌^◌, eqb, length, get_or, drop, if◌then◌else◌}
 use Rattle.std.proofs.Math.Option.{Option, none, some}
-use Rattle.rules.specs.Notation.{if◌then◌else◌, Each}
+use Rattle.rules.specs.Notation.{Each}
 use Rattle.rules.specs.Ground.{image_of, block_size, reserved_id, kept_from_values}
 use Rattle.rules.specs.Look.{value, need_of}
 use Rattle.rules.specs.Reading.{Entry, View}

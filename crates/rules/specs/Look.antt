@@ -1,7 +1,7 @@
 -- What a block is, under the sector's cycle and after what was read before it in the sector.
-use Rattle.std.specs.Prelude.{Bool, true, false, not, ◌&&◌, ◌||◌, ℕ, ◌+◌, ◌*◌, ◌-◌, ◌/◌, List, take, drop, leb, eqb}
+use Rattle.std.specs.Prelude.{Bool, true, false, not, ◌&&◌, ◌||◌, ℕ, ◌+◌, ◌*◌, ◌-◌, ◌/◌, List, take, drop, leb, eqb, if◌then◌else◌}
 use Rattle.std.proofs.Math.Option.{Option, none, some}
-use Rattle.rules.specs.Notation.{if◌then◌else◌, when, number_of, is_erased}
+use Rattle.rules.specs.Notation.{when, number_of, is_erased}
 use Rattle.rules.specs.Ground.{Block, block_size, kept_from_values, kept_from_deletions, reserved_id}
 use Rattle.rules.specs.Checksum.{crc8}
 use Rattle.rules.specs.Entry.{check_of, cycle_of, length_of, id_of, body_of, offset_of, crc32_of, lead_length, lead_mark}

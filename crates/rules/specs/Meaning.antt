@@ -1,7 +1,7 @@
 -- "What an image means": classes, states, age, and what is told of an ID. All of it goes by what the sectors show.
-use Rattle.std.specs.Prelude.{◌≡◌, Bool, true, false, not, ◌&&◌, List, [], ◌∷◌, ◌++◌, map, reverse, ℕ, suc, ◌+◌, ◌-◌, ◌<◌, eqb, ltb, length, get_or, take, drop}
+use Rattle.std.specs.Prelude.{◌≡◌, Bool, true, false, not, ◌&&◌, List, [], ◌∷◌, ◌++◌, map, reverse, ℕ, suc, ◌+◌, ◌-◌, ◌<◌, eqb, ltb, length, get_or, take, drop, if◌then◌else◌}
 use Rattle.std.proofs.Math.Option.{Option, none, some}
-use Rattle.rules.specs.Notation.{if◌then◌else◌, when, any, all, select, places_from, concat, is_empty, number_of}
+use Rattle.rules.specs.Notation.{when, any, all, select, places_from, concat, is_empty, number_of}
 use Rattle.rules.specs.Ground.{Image}
 use Rattle.rules.specs.Checksum.{crc32}
 use Rattle.rules.specs.Look.{Head, done, deletion, value, need_of, is_done}

@@ -1,12 +1,6 @@
 -- The few words that the definitions are written in, besides those of the library.
-use Rattle.std.specs.Prelude.{Bool, true, false, ◌&&◌, ◌||◌, List, [], ◌∷◌, ◌++◌, ℕ, zero, suc, ◌+◌, ◌*◌, ◌/◌, ◌%◌, take, drop, replicate, eqb}
+use Rattle.std.specs.Prelude.{Bool, true, false, ◌&&◌, ◌||◌, List, [], ◌∷◌, ◌++◌, ℕ, zero, suc, ◌+◌, ◌*◌, ◌/◌, ◌%◌, take, drop, replicate, eqb, cond}
 use Rattle.std.proofs.Math.Option.{Option, none, some}
-
-infixr 20 if◌then◌else◌
--- a choice between two values
-unfoldable pub if◌then◌else◌ {ℓ} : {A : Type ℓ} → Bool → A → A → A
-if◌then◌else◌ true a b = a
-if◌then◌else◌ false a b = b
 
 -- a value where the test holds
 unfoldable pub when {ℓ} : {A : Type ℓ} → Bool → A → Option A
@@ -63,12 +57,12 @@ all test (x ∷ xs) = test x && all test xs
 -- the elements that satisfy it
 unfoldable pub select {ℓ} : {A : Type ℓ} → (A → Bool) → List A → List A
 select test [] = []
-select test (x ∷ xs) = if test x then x ∷ select test xs else select test xs
+select test (x ∷ xs) = cond (test x) (x ∷ select test xs) (select test xs)
 
 -- and their places, counted from k
 unfoldable pub places_from {ℓ} : {A : Type ℓ} → ℕ → (A → Bool) → List A → List ℕ
 places_from k test [] = []
-places_from k test (x ∷ xs) = if test x then k ∷ places_from (suc k) test xs else places_from (suc k) test xs
+places_from k test (x ∷ xs) = cond (test x) (k ∷ places_from (suc k) test xs) (places_from (suc k) test xs)
 
 -- each element is so
 pub data Each {ℓ κ} {A : Type ℓ} (P : A → Type κ) : List A → Type (ℓ ⊔ κ) where

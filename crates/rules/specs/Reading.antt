@@ -1,6 +1,5 @@
 -- "Reading a sector": its entries, oldest first, and the block that ended the reading.
-use Rattle.std.specs.Prelude.{Bool, false, List, [], ◌∷◌, ℕ, zero, suc, ◌-◌, ltb, length, get_or, take, drop}
-use Rattle.rules.specs.Notation.{if◌then◌else◌}
+use Rattle.std.specs.Prelude.{Bool, false, List, [], ◌∷◌, ℕ, zero, suc, ◌-◌, ltb, length, get_or, take, drop, if◌then◌else◌}
 use Rattle.rules.specs.Ground.{Block, Sector}
 use Rattle.rules.specs.Entry.{cycle_of, body_of}
 use Rattle.rules.specs.Look.{Head, done, deletion, value, Scan, start, after, data_of, is_lead, is_close, Verdict, entry, blank, other_cycle, wrong_check, wrong_form, over_limit, look}

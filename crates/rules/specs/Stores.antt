@@ -1,7 +1,7 @@
 -- "Order of stores": each step as the list of block stores that it makes on an image.
-use Rattle.std.specs.Prelude.{Bool, true, false, ◌&&◌, List, [], ◌∷◌, ◌++◌, map, ℕ, zero, suc, ◌+◌, ◌*◌, ◌-◌, ◌%◌, eqb, leb, ltb, length, get_or}
+use Rattle.std.specs.Prelude.{Bool, true, false, ◌&&◌, List, [], ◌∷◌, ◌++◌, map, ℕ, zero, suc, ◌+◌, ◌*◌, ◌-◌, ◌%◌, eqb, leb, ltb, length, get_or, if◌then◌else◌}
 use Rattle.std.proofs.Math.Option.{Option, none, some}
-use Rattle.rules.specs.Notation.{if◌then◌else◌, pieces, bytes_of, erased}
+use Rattle.rules.specs.Notation.{pieces, bytes_of, erased}
 use Rattle.rules.specs.Ground.{Block, Image, block_size, blank_block, block_at, store, store_bytes, reserved_id}
 use Rattle.rules.specs.Checksum.{crc32}
 use Rattle.rules.specs.Entry.{encode, lead_block, close_block, done_block}

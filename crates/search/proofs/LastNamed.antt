@@ -11,7 +11,7 @@ use lib.Seq.{get_or-take}
 use Rattle.rules.specs.Notation.{when, any}
 use Rattle.rules.specs.Reading.{Entry}
 use Rattle.rules.specs.Meaning.{is_named}
-use Rattle.rules.proofs.Basics.Notation.{by-test, if-true, if-false, when_true, when_false}
+use Rattle.rules.proofs.Basics.Notation.{by-test, when_true, when_false}
 use Rattle.rules.proofs.Ring.Changes.{are_named}
 use Rattle.image.specs.Answer.{no_entry}
 use Rattle.search.specs.Search.{last_named_below, last_named}
@@ -23,11 +23,11 @@ behind first (some m) = some (suc m)
 
 pub last-behind : (id n : ℕ) (x : Entry) (es : List Entry) → last_named_below id (suc n) (x ∷ es) ≡ behind (is_named id x.head) (last_named_below id n es)
 unfolding last_named_below behind
-last-behind id zero x es = by-test (is_named id x.head) (λ t. rw (t, if-true, when_true)) (λ f. rw (f, if-false, when_false))
+last-behind id zero x es = by-test (is_named id x.head) (λ t. rw (t, when_true)) (λ f. rw (f, when_false))
 last-behind id (suc n) x es =
     by-test (is_named id (get_or es n no_entry).head)
-    (λ t. simp (t, if-true))
-    (λ f. simp (f, if-false) (last-behind id n x es))
+    (λ t. simp t)
+    (λ f. simp f (last-behind id n x es))
 
 -- is there one?
 unfoldable pub is_found : Option ℕ → Bool

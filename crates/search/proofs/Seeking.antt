@@ -12,7 +12,6 @@ use Rattle.rules.specs.Ground.{block_size, reserved_id, sector_of}
 use Rattle.rules.specs.Entry.{id_of}
 use Rattle.rules.specs.Reading.{Entry, View, view_of}
 use Rattle.rules.specs.Meaning.{view_at, next, previous, ring_sector, is_named}
-use Rattle.rules.proofs.Basics.Notation.{if-true, if-false}
 use Rattle.rules.proofs.Blocks.Counting.{counted}
 use Rattle.rules.proofs.Blocks.Lying.{lies_at}
 use Rattle.rules.proofs.Ring.Newest.{named-id, previous-lt, ring-down, ring-working}
@@ -25,11 +24,11 @@ use Rattle.search.specs.Search.{last_named_below, last_named, in_sector, seek, h
 module _ (id : ℕ) (es : List Entry) where
   pub last-here : {m : ℕ} (n : ℕ) → m ≡ suc n → is_named id (get_or es n no_entry).head ≡ true → last_named_below id m es ≡ some n
   unfolding last_named_below
-  last-here n above named = rw (above, named, if-true)
+  last-here n above named = rw (above, named)
 
   pub last-below : {m : ℕ} (n : ℕ) → m ≡ suc n → is_named id (get_or es n no_entry).head ≡ false → last_named_below id m es ≡ last_named_below id n es
   unfolding last_named_below
-  last-below n above other = rw (above, other, if-false)
+  last-below n above other = rw (above, other)
 
   pub last-of-none : {m : ℕ} → m ≡ 0 → last_named_below id m es ≡ none
   unfolding last_named_below

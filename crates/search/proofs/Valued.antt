@@ -16,7 +16,7 @@ use Rattle.rules.specs.Entry.{length_of, offset_of, crc32_of}
 use Rattle.rules.specs.Look.{Head, done, deletion, value}
 use Rattle.rules.specs.Reading.{Entry, is_long}
 use Rattle.rules.specs.Meaning.{view_at, next, at_rest, history, lookup, is_value, length_in, value_of, is_sound}
-use Rattle.rules.proofs.Basics.Notation.{if-true, if-false, refuted, by-test, when_true, when_false, took-then, took-else}
+use Rattle.rules.proofs.Basics.Notation.{refuted, by-test, when_true, when_false, took-then, took-else}
 use Rattle.rules.proofs.Basics.Lists.{part-of-take}
 use Rattle.rules.proofs.Format.Ground.{place-in-sector, length-sector-bytes, sector-fits}
 use Rattle.rules.proofs.Blocks.Lying.{LiesAt}
@@ -85,21 +85,21 @@ module _ (g : Geometry) (bytes : List ℕ) (k : Backs g bytes) (s n : ℕ) (insi
 
   pub found_none : length_of block ≡ 0 → found_in B im s n ≡ found.Nothing
   unfolding found_in
-  found_none zeroes = rw (refuted (is_value e.head) (λ v. (lies.valued.0 v).1 zeroes), if-false)
+  found_none zeroes = rw (refuted (is_value e.head) (λ v. (lies.valued.0 v).1 zeroes))
 
   pub found-small : 0 < length_of block → length_of block ≤ 8
       → found_in B im s n ≡ found.Value (place_at (place_of B s (B - 3 - n) + 8)) (length_of block) check.Unchecked
   unfolding found_in value_place check_as
   found-small one few =
       let short : is_long e.head ≡ false = long-by e.head ∙ le-ltb 8 (length_in e.head) (omega (arith, lies.length)) in
-      simp (value-by e.head (λ z. omega (arith, lies.length)), short, if-true, if-false, lies.length)
+      simp (value-by e.head (λ z. omega (arith, lies.length)), short, lies.length)
 
   pub found-long : 8 < length_of block
       → found_in B im s n ≡ found.Value (place_at (place_of B s 0 + offset_of block)) (length_of block) (check.Crc32 (crc32_of block))
   unfolding found_in value_place check_as
   found-long many =
       let long : is_long e.head ≡ true = long-by e.head ∙ lt-ltb 8 (length_in e.head) (omega (arith, lies.length)) in
-      simp (value-by e.head (λ z. omega (arith, lies.length)), long, if-true, lies.length, (lies.long long).check)
+      simp (value-by e.head (λ z. omega (arith, lies.length)), long, lies.length, (lies.long long).check)
 
   -- the bytes end within the sector, so its place is within the image
   pub offset-small : 8 < length_of block → offset_of block + length_of block ≤ B * block_size
@@ -126,7 +126,7 @@ module _ (g : Geometry) (bytes : List ℕ) (k : Backs g bytes) (s n : ℕ) (insi
       (λ long.
       record {
         from = offset_of block;
-        place = rw (long, if-true, first);
+        place = rw (long, first);
         lies-from = (lies.long long).lies;
         fits = omega (arith, (lies.long long).inside, sector-sized);
       })
@@ -134,7 +134,7 @@ module _ (g : Geometry) (bytes : List ℕ) (k : Backs g bytes) (s n : ℕ) (insi
       let few : length_in e.head ≤ 8 = ltb-false 8 (length_in e.head) (sym (long-by e.head) ∙ short) in
       record {
         from = (B - 3 - n) * block_size + 8;
-        place = rw (short, if-false, own) (omega arith);
+        place = rw (short, own) (omega arith);
         lies-from = lies.short short;
         fits = omega (arith, few, k.sound.blocks_from);
       })
@@ -156,8 +156,8 @@ module _ (g : Geometry) (bytes : List ℕ) (k : Backs g bytes) (s n : ℕ) (insi
   unfolding is_sound passes check_as
   value-checked =
       by-test (is_long e.head)
-      (λ long. simp (long, if-true))
-      (λ short. simp (short, if-false))
+      (λ long. simp long)
+      (λ short. simp short)
 
   -- so it is with what is answered for the entry
   held : {place : Place} {len : ℕ} {check : Check} → found_in B im s n ≡ found.Value place len check

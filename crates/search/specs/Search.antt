@@ -1,7 +1,7 @@
 -- The newest entry of an ID, by the number of its sector and its number there; and the crate's answers for it.
-use Rattle.std.specs.Prelude.{List, ℕ, zero, suc, length, get_or}
+use Rattle.std.specs.Prelude.{List, ℕ, zero, suc, length, get_or, if◌then◌else◌}
 use Rattle.std.proofs.Math.Option.{Option, none, some}
-use Rattle.rules.specs.Notation.{if◌then◌else◌, when}
+use Rattle.rules.specs.Notation.{when}
 use Rattle.rules.specs.Reading.{Entry, View}
 use Rattle.rules.specs.Meaning.{view_at, ring_sector, is_named, is_value}
 use Rattle.layout.specs.Numbers.{sector_at}

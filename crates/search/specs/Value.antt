@@ -1,7 +1,7 @@
 -- The value that an entry tells, by the place of its bytes in the image; and the crate's answers for it.
-use Rattle.std.specs.Prelude.{Bool, true, List, ℕ, ◌+◌, ◌-◌, eqb, get_or}
+use Rattle.std.specs.Prelude.{Bool, true, List, ℕ, ◌+◌, ◌-◌, eqb, get_or, if◌then◌else◌}
 use Rattle.std.proofs.Math.Option.{Option, none, some}
-use Rattle.rules.specs.Notation.{if◌then◌else◌, number_of}
+use Rattle.rules.specs.Notation.{number_of}
 use Rattle.rules.specs.Ground.{Image, block_at, place_of}
 use Rattle.rules.specs.Checksum.{crc32}
 use Rattle.rules.specs.Entry.{offset_of}

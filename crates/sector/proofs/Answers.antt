@@ -13,7 +13,6 @@ use Rattle.rules.specs.Look as rule
 use Rattle.rules.specs.Look.{is_lead, lead_cycle, is_close, after}
 use Rattle.rules.specs.Reading.{view_of}
 use Rattle.rules.proofs.Basics.Lists.{length_part}
-use Rattle.rules.proofs.Basics.Notation.{if-true, if-false}
 use Rattle.rules.proofs.Format.Ground.{get_or-pieces}
 use Rattle.layout.specs.declared.Block.{Block}
 use Rattle.layout.specs.Numbers.{block_no, block_numbered}
@@ -79,8 +78,8 @@ module _ (B : ℕ) (sector : Sector) where
   pub header-led : {cycle : ℕ} → is_lead (get_or sector (B - 1) []) ≡ true → cycle ≡ cycle_of (get_or sector (B - 1) [])
       → Led cycle (is_close cycle (get_or sector (B - 2) [])) ≡ header_as B sector
   unfolding header_as view_of
-  header-led led same = rw (same, led, if-true)
+  header-led led same = rw (same, led)
 
   pub header-none : is_lead (get_or sector (B - 1) []) ≡ false → NoLead ≡ header_as B sector
   unfolding header_as view_of
-  header-none wrong = rw (wrong, if-false)
+  header-none wrong = rw wrong

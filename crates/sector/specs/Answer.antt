@@ -1,6 +1,6 @@
 -- The crate's types beside the plain data of the rules: the answers for what a sector shows.
-use Rattle.std.specs.Prelude.{Bool, List, ℕ, length}
-use Rattle.rules.specs.Notation.{if◌then◌else◌, any}
+use Rattle.std.specs.Prelude.{Bool, List, ℕ, length, if◌then◌else◌}
+use Rattle.rules.specs.Notation.{any}
 use Rattle.rules.specs.Ground.{Sector}
 use Rattle.rules.specs.Look.{start, is_done}
 use Rattle.rules.specs.Reading.{Entry, View, entries_of, after_all, end_verdict, view_of}

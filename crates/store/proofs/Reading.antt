@@ -10,7 +10,6 @@ use Rattle.rules.specs.Ground.{reserved_id, image_of}
 use Rattle.rules.specs.Meaning.{at_rest, state_of, history, lookup}
 use Rattle.rules.specs.Calls as rule
 use Rattle.rules.specs.Calls.{read_entry}
-use Rattle.rules.proofs.Basics.Notation.{if-true, if-false}
 use Rattle.layout.specs.declared.Geometry.{Geometry}
 use Rattle.layout.specs.declared.Sizes.TheVariants.{Legal, Illegal}
 use Rattle.layout.specs.Geometry.{blocks_of, sectors_of, sizes_of}
@@ -34,7 +33,7 @@ module _ (size count : ℕ) (bytes : List ℕ) (id room : ℕ) where
 
     pub read-reserved : id ≡ reserved_id → rule.read size count bytes id room ≡ rule.refused rule.reserved
     unfolding rule.read_on
-    read-reserved same = read-legal ∙ rw (eq-eqb id reserved_id same, if-true)
+    read-reserved same = read-legal ∙ rw (eq-eqb id reserved_id same)
 
     module _ (other : id ≡ reserved_id → ⊥) where
       abbrev looked_up : ℕ → rule.Reply
@@ -42,7 +41,7 @@ module _ (size count : ℕ) (bytes : List ℕ) (id room : ℕ) where
 
       read-user : rule.read size count bytes id room ≡ rule.in_rest (state_of (views_in g bytes)) rule.refused looked_up
       unfolding rule.read_on
-      read-user = read-legal ∙ rw (ne_eqb id reserved_id other, if-false)
+      read-user = read-legal ∙ rw (ne_eqb id reserved_id other)
 
       pub read-rest : {w : ℕ} → state_of (views_in g bytes) ≡ some (at_rest w)
           → rule.read size count bytes id room ≡ read_entry room (lookup id (history (at_rest w) (views_in g bytes)))

@@ -10,7 +10,6 @@ use Rattle.rules.specs.Ground.{Image, image_of}
 use Rattle.rules.specs.Meaning.{State, at_rest, not_reopened, mid_turn}
 use Rattle.rules.specs.Calls as rule
 use Rattle.rules.specs.Calls.{at_sizes, in_rest}
-use Rattle.rules.proofs.Basics.Notation.{if-true, if-false}
 use Rattle.layout.specs.declared.Geometry.{Geometry}
 use Rattle.layout.specs.declared.Sector.{Sector}
 use Rattle.layout.specs.declared.Sizes.TheVariants.{Legal, Illegal}
@@ -28,14 +27,14 @@ use Rattle.store.specs.State.{open_as}
 module _ {ℓ} {A : Type ℓ} (size count : ℕ) (bytes : List ℕ) (reason : rule.Refusal → A) (call : (B S : ℕ) → Image → A) where
   pub at-illegal : sizes_of size count (length bytes) ≡ Illegal → at_sizes size count bytes reason call ≡ reason rule.geometry
   unfolding at_sizes
-  at-illegal e = rw (not-sizes size count (length bytes) e, if-false)
+  at-illegal e = rw (not-sizes size count (length bytes) e)
 
   pub at-legal : (g : Geometry) → sizes_of size count (length bytes) ≡ Legal g
       → at_sizes size count bytes reason call ≡ call (blocks_of g) (sectors_of g) (image_of (blocks_of g) (sectors_of g) bytes)
   unfolding at_sizes
   at-legal g e =
       let from = from-sizes size count (length bytes) g e in
-      rw (from.legal, if-true, from.blocks, from.sectors)
+      rw (from.legal, from.blocks, from.sectors)
 
 -- ---- the state
 

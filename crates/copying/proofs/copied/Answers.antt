@@ -7,7 +7,6 @@ use native.Mathlib.Omega.{arith}
 use lib.ListN.{take, drop}
 use borrow.Author.Tests.{le-leb, lt-leb}
 use Rattle.rules.specs.Entry.{length_of, small_value_block}
-use Rattle.rules.proofs.Basics.Notation.{if-true, if-false}
 use Rattle.copying.specs.Copy.{copy_of}
 use Rattle.copying.proofs.copied.Goals as goal
 
@@ -18,11 +17,11 @@ returns-then-small-le-SMALL c = let block : List ℕ = c.args.block.now in
     let count : 8 + c.length_in-length.result - 8 ≡ length_of block = omega arith in
     c.small_value.ensures
     ∙ ap₂ (small_value_block _) c.id_in-id.ensures (ap (λ (n : ℕ). take n (drop 8 block)) count)
-    ∙ sym (simp (le-leb (length_of block) 8 few, if-true))
+    ∙ sym (simp (le-leb (length_of block) 8 few))
 
 pub returns : goal.returns
 unfolding copy_of
 returns c = let block : List ℕ = c.args.block.now in
     let many : 8 < length_of block = omega (arith, c.if-small-le-SMALL.false) in
     let whole = rw (c.id_in-id.ensures, c.length_in-length.ensures, c.crc32_in-check.ensures) at c.long_value.ensures in
-    whole ∙ sym (simp (lt-leb (length_of block) 8 many, if-false))
+    whole ∙ sym (simp (lt-leb (length_of block) 8 many))

@@ -2,13 +2,13 @@
 use mathlib.Core.Path.{refl, ap}
 use Prim.Native.Nat.{ℕ}
 use lib.Bits.{bit_xor}
-use Rattle.rules.specs.Notation.{if◌then◌else◌, times}
+use Rattle.rules.specs.Notation.{times}
 use Rattle.rules.specs.Checksum.{step32, crc32}
 use Rattle.crc.proofs.Table.{is_right, right}
 use Rattle.crc.proofs.crc32.Goals as goal
 
 pub update32-requires : goal.update32-requires
-unfolding is_right times step32 if◌then◌else◌
+unfolding is_right times step32
 update32-requires c = right step32 _ tt refl
 
 pub returns : goal.returns

@@ -1,4 +1,5 @@
 -- Laws of the notation: choices, little-endian numbers, erased bytes.
+use Rattle.std.specs.Prelude.{cond}
 use mathlib.Core.Path.{◌≡◌, refl, ap, ◌∙◌}
 use mathlib.Core.Bool.{Bool, true, false, ◌&&◌, ◌||◌, true≢false, false≢true}
 use mathlib.Core.List.{List, [], ◌∷◌}
@@ -12,7 +13,7 @@ use lib.Dec.{eqb}
 use lib.ListN.{length, get_or, take, drop, length-replicate, drop_of_length-le}
 use lib.Seq.{drop-cons}
 use borrow.Author.Tests.{eqb-true}
-use Rattle.rules.specs.Notation.{if◌then◌else◌, when, bytes_of, number_of, erased, is_erased}
+use Rattle.rules.specs.Notation.{when, bytes_of, number_of, erased, is_erased}
 
 pub both_true : (a b : Bool) → (a && b) ≡ true → (a ≡ true) × (b ≡ true)
 both_true true b e = (refl, e)
@@ -28,25 +29,16 @@ refuted true never = absurd (never refl)
 refuted false never = refl
 
 module _ {ℓ} {A : Type ℓ} where
-  pub if-true : (a b : A) → (if true then a else b) ≡ a
-  unfolding if◌then◌else◌
-  if-true a b = refl
-
-  pub if-false : (a b : A) → (if false then a else b) ≡ b
-  unfolding if◌then◌else◌
-  if-false a b = refl
-
   -- which branch gave z
-  pub if-cases : {z : A} (b : Bool) (x y : A) → (if b then x else y) ≡ z → ((b ≡ true) × (x ≡ z)) ⊎ ((b ≡ false) × (y ≡ z))
-  unfolding if◌then◌else◌
+  pub if-cases : {z : A} (b : Bool) (x y : A) → (cond b x y) ≡ z → ((b ≡ true) × (x ≡ z)) ⊎ ((b ≡ false) × (y ≡ z))
   if-cases true x y e = inl (refl, e)
   if-cases false x y e = inr (refl, e)
 
   -- and where the other one cannot have
-  pub took-else : {z : A} (b : Bool) (x y : A) → (x ≡ z → ⊥) → (if b then x else y) ≡ z → (b ≡ false) × (y ≡ z)
+  pub took-else : {z : A} (b : Bool) (x y : A) → (x ≡ z → ⊥) → (cond b x y) ≡ z → (b ≡ false) × (y ≡ z)
   took-else b x y no-x e = ⊎_elim (λ t. absurd (no-x t.1)) (λ t. t) (if-cases b x y e)
 
-  pub took-then : {z : A} (b : Bool) (x y : A) → (y ≡ z → ⊥) → (if b then x else y) ≡ z → (b ≡ true) × (x ≡ z)
+  pub took-then : {z : A} (b : Bool) (x y : A) → (y ≡ z → ⊥) → (cond b x y) ≡ z → (b ≡ true) × (x ≡ z)
   took-then b x y no-y e = ⊎_elim (λ t. t) (λ t. absurd (no-y t.1)) (if-cases b x y e)
 
   pub when_true : (a : A) → when true a ≡ some a
@@ -127,7 +119,6 @@ by-test true t f = t refl
 by-test false t f = f refl
 
 -- what holds of the branch that is taken holds of the choice
-pub if-either {ℓ κ} : {A : Type ℓ} (P : A → Type κ) (b : Bool) {x y : A} → (b ≡ true → P x) → (b ≡ false → P y) → P (if b then x else y)
-unfolding if◌then◌else◌
+pub if-either {ℓ κ} : {A : Type ℓ} (P : A → Type κ) (b : Bool) {x y : A} → (b ≡ true → P x) → (b ≡ false → P y) → P (cond b x y)
 if-either P true px py = px refl
 if-either P false px py = py refl

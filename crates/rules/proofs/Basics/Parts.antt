@@ -1,4 +1,5 @@
 -- Laws of parts of a list: what holds of each element holds of each of a part, and a part is known by what it lies in.
+use Rattle.std.specs.Prelude.{cond}
 use mathlib.Core.Path.{◌≡◌, sym, ap, ◌∙◌}
 use mathlib.Core.List.{List, [], ◌∷◌, ◌++◌}
 use Prim.Native.Nat.{ℕ, zero, suc, ◌+◌, ◌<◌, ◌≤◌}
@@ -6,7 +7,7 @@ use native.Mathlib.Nat.{zero-add, suc-add, le_of_suc-le-suc, not-suc-le-zero}
 use lib.ListN.{length, get_or, take, drop, set, replicate}
 use lib.Seq.{take-take, take-nil}
 use mathlib.Core.Bool.{Bool, true, false}
-use Rattle.rules.specs.Notation.{if◌then◌else◌, Each, empty, each}
+use Rattle.rules.specs.Notation.{Each, empty, each}
 
 module _ {ℓ κ} {A : Type ℓ} {P : A → Type κ} where
   pub each_at : {xs : List A} → Each P xs → (i : ℕ) (d : A) → i < length xs → P (get_or xs i d)
@@ -37,8 +38,7 @@ module _ {ℓ κ} {A : Type ℓ} {P : A → Type κ} where
   each-replicate zero x p = empty
   each-replicate (suc n) x p = each p (each-replicate n x p)
 
-  pub each-either : {xs ys : List A} (b : Bool) → Each P xs → Each P ys → Each P (if b then xs else ys)
-  unfolding if◌then◌else◌
+  pub each-either : {xs ys : List A} (b : Bool) → Each P xs → Each P ys → Each P (cond b xs ys)
   each-either true ps qs = ps
   each-either false ps qs = qs
 

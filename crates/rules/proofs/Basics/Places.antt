@@ -9,7 +9,7 @@ use native.Mathlib.Omega.{arith}
 use native.Mathlib.Decide.{ℕ_discrete}
 use lib.ListN.{length, get_or}
 use Rattle.rules.specs.Notation.{any, all, places_from, Each, empty, each}
-use Rattle.rules.proofs.Basics.Notation.{both_true, if-true, if-false, if-cases}
+use Rattle.rules.proofs.Basics.Notation.{both_true, if-cases}
 
 -- The test fails at each place; it holds at one place and fails at all others.
 abbrev pub Nowhere {ℓ} : {A : Type ℓ} → (A → Bool) → A → List A → Type 0
@@ -49,11 +49,11 @@ module _ {ℓ} {A : Type ℓ} (test : A → Bool) where
     -- The places of one more element: here, or all later.
     skipped : (k : ℕ) (x : A) (xs : List A) → test x ≡ false → places_from k test (x ∷ xs) ≡ places_from (suc k) test xs
     unfolding places_from
-    skipped k x xs e = simp (e, if-false)
+    skipped k x xs e = simp e
 
     taken : (k : ℕ) (x : A) (xs : List A) → test x ≡ true → places_from k test (x ∷ xs) ≡ k ∷ places_from (suc k) test xs
     unfolding places_from
-    taken k x xs e = simp (e, if-true)
+    taken k x xs e = simp e
 
     which : (k : ℕ) (x : A) (xs : List A) {ps : List ℕ} → places_from k test (x ∷ xs) ≡ ps
         → ((test x ≡ true) × (k ∷ places_from (suc k) test xs ≡ ps)) ⊎ ((test x ≡ false) × (places_from (suc k) test xs ≡ ps))

@@ -1,4 +1,5 @@
 -- What the entries of a sector come to: their needs, their data blocks, and how far down they reach.
+use Rattle.std.specs.Prelude.{if◌then◌else◌}
 use mathlib.Core.Path.{◌≡◌, refl, sym, ◌∙◌}
 use mathlib.Core.Bool.{Bool, true, false, ◌||◌, false≢true, or_assoc, or-false}
 use mathlib.Core.List.{List, [], ◌∷◌}
@@ -6,12 +7,11 @@ use Prim.Native.Nat.{ℕ, suc, ◌+◌, ◌-◌, ◌≤◌}
 use native.Mathlib.Omega.{arith}
 use lib.ListN.{length, get_or}
 use borrow.Author.Tests.{leb-true}
-use Rattle.rules.specs.Notation.{if◌then◌else◌, any, select}
+use Rattle.rules.specs.Notation.{any, select}
 use Rattle.rules.specs.Ground.{Sector, kept_from_values}
 use Rattle.rules.specs.Look.{Head, done, deletion, value, Scan, start, after, data_blocks, need_of, is_done, is_within}
 use Rattle.rules.specs.Reading.{Entry, entries_of, after_all, end_block}
 use Rattle.rules.specs.Meaning.{is_value, needs_of}
-use Rattle.rules.proofs.Basics.Notation.{if-true, if-false}
 use Rattle.rules.proofs.Format.Look.{look-entry}
 use Rattle.rules.proofs.Blocks.Reading.{Took, took-none, took_more, took-down}
 use Rattle.rules.proofs.Blocks.Place.{place-data, Reading, reading-of, reading-last}
@@ -51,11 +51,11 @@ values-from {B} {cycle} {sector} v (took_more {p = p} {scan = scan} {e = e} {es 
   where
     go : ((w : ℕ) → w + 5 ≤ B → w ≤ scan.needs + need_of e.head → w + needs_of (select (λ (x : Entry). is_value x.head) es) + 5 ≤ B)
         → (b : Bool) → is_value e.head ≡ b → v + needs_of (select (λ (x : Entry). is_value x.head) (e ∷ es)) + 5 ≤ B
-    go ih false same = simp (same, if-false) (ih v few (omega arith))
+    go ih false same = simp same (ih v few (omega arith))
     go ih true same =
         let room : scan.needs + need_of e.head + 5 ≤ B = value_room B scan e.head same (look-entry B cycle scan (get_or sector p []) here).within in
         let sum : _ = ih (v + need_of e.head) (omega arith) (omega arith) in
-        simp (same, if-true) (omega (arith, sum))
+        simp same (omega (arith, sum))
 
 -- What the entries of a sector come to: each takes a block of its own, and what it needs beyond that is data; a done needs
 -- nothing; a block is left that ended the reading, and it is no data in use.

@@ -11,7 +11,7 @@ use Rattle.rules.specs.Notation.{erased, Each, empty, each}
 use Rattle.rules.specs.Ground.{Block, block_size}
 use Rattle.rules.specs.Look.{data_blocks}
 use Rattle.rules.specs.Stores.{Store, data', data_stores, value_entry}
-use Rattle.rules.proofs.Basics.Notation.{if-true, if-false, by-test, length-erased, take-erased}
+use Rattle.rules.proofs.Basics.Notation.{by-test, length-erased, take-erased}
 use Rattle.rules.proofs.Basics.Lists.{take-append}
 use Rattle.rules.proofs.Basics.Places.{at_each}
 use Rattle.rules.proofs.Format.Ground.{length-pieces, get_or-pieces}
@@ -30,8 +30,8 @@ pub block-begins : (len k : ℕ) → k < data_blocks len → k * block_size < le
 unfolding data_blocks
 block-begins len k h =
     by-test (leb len 8)
-    (λ small. let none : k < 0 = simp (small, if-true) at h in omega arith)
-    (λ long. let some : k < (len + 15) / block_size = simp (long, if-false) at h in omega arith)
+    (λ small. let none : k < 0 = simp small at h in omega arith)
+    (λ long. let some : k < (len + 15) / block_size = simp long at h in omega arith)
 
 module _ (id : ℕ) (v : List ℕ) where
   pub value-count : length (value_entry id v).blocks ≡ data_blocks (length v)

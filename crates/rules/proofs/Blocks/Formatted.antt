@@ -1,4 +1,5 @@
 -- What a format leaves: every block has its final bytes, whatever it held before.
+use Rattle.std.specs.Prelude.{cond}
 use mathlib.Core.Path.{◌≡◌, refl, sym, ap, ◌∙◌}
 use mathlib.Core.Bool.{Bool, true, false, ◌&&◌}
 use mathlib.Core.List.{List, [], ◌∷◌, ◌++◌}
@@ -9,7 +10,7 @@ use lib.Dec.{ltb, eqb}
 use borrow.Author.Tests.{ltb-true, eqb-true}
 use lib.ListN.{length, get_or, set, length-set, length-map, length-append}
 use lib.Seq.{sets, set-get_or, set-set, get_or-set_same, get_or-set_other, lt-length-set}
-use Rattle.rules.specs.Notation.{if◌then◌else◌, all, pieces, Each, empty, each}
+use Rattle.rules.specs.Notation.{all, pieces, Each, empty, each}
 use Rattle.rules.specs.Ground.{Block, Sector, Image, block_size, sector_of, image_of, store, blank_block}
 use Rattle.rules.specs.Entry.{lead_block, close_block, done_block}
 use Rattle.rules.specs.Stores.{Store, Kind, apply, blank_store, final_store, final_blocks, final_sectors, format}
@@ -64,8 +65,7 @@ record Final (s b : ℕ) (x : Store) : Type 0 where
   block : x.block ≡ b
   bytes : IsBlock x.bytes
 
-if-either {ℓ κ} : {A : Type ℓ} (P : A → Type κ) (test : Bool) (x y : A) → P x → P y → P (if test then x else y)
-unfolding if◌then◌else◌
+if-either {ℓ κ} : {A : Type ℓ} (P : A → Type κ) (test : Bool) (x y : A) → P x → P y → P (cond test x y)
 if-either P true x y p q = p
 if-either P false x y p q = q
 

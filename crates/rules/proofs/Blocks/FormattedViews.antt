@@ -17,7 +17,7 @@ use Rattle.rules.specs.Look.{Scan, is_lead, is_close, start, after, is_within, j
 use Rattle.rules.specs.Reading.{Entry, View, entry_at, entries_below, entries_of, view_of}
 use Rattle.rules.specs.Meaning.{at_rest, views_of, is_working, is_unfinished, next, view_at, state_by, state_of, all_but, counting, entries_in, history, lookup}
 use Rattle.rules.specs.Stores.{blank_store, done_entry, final_store}
-use Rattle.rules.proofs.Basics.Notation.{if-true, if-false, when_true, both_true, refuted}
+use Rattle.rules.proofs.Basics.Notation.{when_true, both_true, refuted}
 use Rattle.rules.proofs.Format.Look.{blank-no-entry, blank-no-close}
 use Rattle.rules.proofs.Format.Built.{look-done, close-built}
 use Rattle.rules.proofs.Computing.{computing}
@@ -49,33 +49,33 @@ module _ (B cycle : ℕ) (sector : Sector) (p : ℕ) (scan : Scan) where
       → entries_below B cycle sector (suc p) scan ≡ entry_at sector p scan look.done ∷ entries_below B cycle sector p (after scan look.done)
   unfolding goes_on judge is_within
   reading-done first e =
-      let counts : judge B scan (some look.done) ≡ entry look.done = simp (first, if-true) in
+      let counts : judge B scan (some look.done) ≡ entry look.done = simp first in
       reading_step (ap (look.look B cycle scan) e ∙ look-done B cycle scan ∙ counts)
 
 -- what the final bytes show, by the blocks that are looked at
 module _ (B s : ℕ) (enough : 8 ≤ B) where
   at-lead : get_or (final_bytes B s 0 B) (B - 1) [] ≡ lead_block 1
   unfolding final_store
-  at-lead = final-at B s 0 B (B - 1) (omega arith) ∙ simp (eq-eqb (0 + (B - 1)) (B - 1) (omega arith), if-true)
+  at-lead = final-at B s 0 B (B - 1) (omega arith) ∙ simp (eq-eqb (0 + (B - 1)) (B - 1) (omega arith))
 
   pub at-close : 2 ≤ s → get_or (final_bytes B s 0 B) (B - 2) [] ≡ close_block 1
   unfolding final_store
   at-close h =
       final-at B s 0 B (B - 2) (omega arith)
-      ∙ simp (ne_eqb (0 + (B - 2)) (B - 1) (omega arith), eq-eqb (0 + (B - 2)) (B - 2) (omega arith), le-leb 2 s h, if-true, if-false)
+      ∙ simp (ne_eqb (0 + (B - 2)) (B - 1) (omega arith), eq-eqb (0 + (B - 2)) (B - 2) (omega arith), le-leb 2 s h)
 
   pub at_done : s ≡ 0 → get_or (final_bytes B s 0 B) (B - 3) [] ≡ done_block 1
   unfolding final_store
   at_done h =
       final-at B s 0 B (B - 3) (omega arith)
-      ∙ simp (ne_eqb (0 + (B - 3)) (B - 1) (omega arith), ne_eqb (0 + (B - 3)) (B - 2) (omega arith), eq-eqb (0 + (B - 3)) (B - 3) (omega arith), eq-eqb s 0 h, if-true, if-false)
+      ∙ simp (ne_eqb (0 + (B - 3)) (B - 1) (omega arith), ne_eqb (0 + (B - 3)) (B - 2) (omega arith), eq-eqb (0 + (B - 3)) (B - 3) (omega arith), eq-eqb s 0 h)
 
   pub at_other : (b : ℕ) → b < B - 1 → (b ≡ B - 2 → 2 ≤ s → ⊥) → (b ≡ B - 3 → s ≡ 0 → ⊥) → get_or (final_bytes B s 0 B) b [] ≡ blank_block
   unfolding final_store blank_store
   at_other b h no-close no-done =
       final-at B s 0 B b (omega arith)
       ∙ ap (λ (n : ℕ). (final_store B s n).bytes) {x = 0 + b} {y = b} (omega arith)
-      ∙ simp (ne_eqb b (B - 1) (omega arith), not-both b (B - 2) (leb 2 s) (λ e t. no-close e (leb-true 2 s t)), not-both b (B - 3) (eqb s 0) (λ e t. no-done e (eqb-true s 0 t)), if-false)
+      ∙ simp (ne_eqb b (B - 1) (omega arith), not-both b (B - 2) (leb 2 s) (λ e t. no-close e (leb-true 2 s t)), not-both b (B - 3) (eqb s 0) (λ e t. no-done e (eqb-true s 0 t)))
     where
       not-both : (x y : ℕ) (t : Bool) → (x ≡ y → t ≡ true → ⊥) → (eqb x y && t) ≡ false
       not-both x y t n = refuted (eqb x y && t) (λ e. let (l, r) = both_true (eqb x y) t e in n (eqb-true x y l) r)
@@ -157,7 +157,7 @@ module _ (v : View) where
   none-placed : (test : View → Bool) → test v ≡ false → (n k : ℕ) → places_from k test (replicate n v) ≡ []
   unfolding places_from
   none-placed test h zero k = refl
-  none-placed test h (suc n) k = simp (h, if-false, none-placed test h n (suc k))
+  none-placed test h (suc n) k = simp (h, none-placed test h n (suc k))
 
   no-entries-in : v.entries ≡ [] → (n : ℕ) (vs : List View) → entries_in (replicate n v ++ vs) ≡ entries_in vs
   unfolding entries_in
@@ -167,7 +167,7 @@ module _ (v : View) where
 -- the spare is the sector after the first
 spare : (n : ℕ) → next (length (fresh_views n)) 0 ≡ 1
 unfolding next
-spare n = simp (ne_eqb 1 (suc (suc (length (replicate n (empty_view true))))) (omega arith), if-false)
+spare n = simp (ne_eqb 1 (suc (suc (length (replicate n (empty_view true))))) (omega arith))
 
 led : (n : ℕ) → all (λ (v : View). v.led) (fresh_views n) ≡ true
 unfolding all
@@ -183,7 +183,7 @@ unfinished n = ap (λ (l : List ℕ). 1 ∷ l) (none-placed (empty_view true) is
 
 pub fresh-rests : (n : ℕ) → state_of (fresh_views n) ≡ some (at_rest 0)
 unfolding state_of state_by view_at is_empty
-fresh-rests n = simp (led n, working n, unfinished n, if-true, spare n, when_true)
+fresh-rests n = simp (led n, working n, unfinished n, spare n, when_true)
 
 pub fresh-history : (n : ℕ) → history (at_rest 0) (fresh_views n) ≡ done_entry ∷ []
 unfolding history counting all_but entries_in

@@ -1,4 +1,5 @@
 -- Where an entry that was read lies in the bytes of its sector: the fields of its own block, and the bytes and data blocks of its value.
+use Rattle.std.specs.Prelude.{if◌then◌else◌}
 use mathlib.Core.Path.{◌≡◌, refl, sym, ap, subst, ◌∙◌}
 use mathlib.Core.Bool.{true, false, false≢true}
 use mathlib.Core.List.{List, [], ◌∷◌}
@@ -10,14 +11,13 @@ use lib.Dec.{eqb}
 use lib.ListN.{length, get_or, take, drop, length-drop}
 use lib.Seq.{drop-drop, take-take, take_all}
 use borrow.Author.Tests.{eq-eqb, ne_eqb, le-ltb, ltb-false}
-use Rattle.rules.specs.Notation.{if◌then◌else◌, pieces, number_of}
+use Rattle.rules.specs.Notation.{pieces, number_of}
 use Rattle.rules.specs.Ground.{Block, Sector, block_size, reserved_id, sector_of}
 use Rattle.rules.specs.Entry.{length_of, id_of, body_of, offset_of, crc32_of}
 use Rattle.rules.specs.Look.{Head, done, deletion, value, Scan, start, after, data_blocks, data_of, head_of, entry, look}
 use Rattle.rules.specs.Reading.{Entry, is_long, entry_at, entries_of}
 use Rattle.rules.specs.Meaning.{is_value, length_in, value_of}
 use Rattle.rules.specs.Stores.{id_in}
-use Rattle.rules.proofs.Basics.Notation.{if-true, if-false}
 use Rattle.rules.proofs.Basics.Lists.{part-of-take, length_part}
 use Rattle.rules.proofs.Format.Ground.{length-pieces, get_or-pieces}
 use Rattle.rules.proofs.Format.Look.{Kind, is-done, is-deletion, is-small-value, is-long-value, form-kind, look-entry}
@@ -57,10 +57,10 @@ pub record LiesAt (bytes : List ℕ) (p : ℕ) (block : Block) (e : Entry) : Typ
 module _ {data_end id len : ℕ} {body : List ℕ} where
   kind-head : {head : Head} → Kind data_end id len body head → head ≡ head_by id len
   unfolding head_by
-  kind-head (is-done reserved zeroes padded) = simp (eq-eqb id reserved_id reserved, if-true)
-  kind-head (is-deletion other zeroes padded) = simp (ne_eqb id reserved_id other, eq-eqb len 0 zeroes, if-true, if-false)
-  kind-head (is-small-value other one few padded) = simp (ne_eqb id reserved_id other, ne_eqb len 0 (omega arith), if-false)
-  kind-head (is-long-value other many placed) = simp (ne_eqb id reserved_id other, ne_eqb len 0 (omega arith), if-false)
+  kind-head (is-done reserved zeroes padded) = simp (eq-eqb id reserved_id reserved)
+  kind-head (is-deletion other zeroes padded) = simp (ne_eqb id reserved_id other, eq-eqb len 0 zeroes)
+  kind-head (is-small-value other one few padded) = simp (ne_eqb id reserved_id other, ne_eqb len 0 (omega arith))
+  kind-head (is-long-value other many placed) = simp (ne_eqb id reserved_id other, ne_eqb len 0 (omega arith))
 
   kind-id : {head : Head} → Kind data_end id len body head → id ≡ id_in head
   unfolding id_in
@@ -167,7 +167,7 @@ module _ (B cycle : ℕ) (bytes : List ℕ) (sized : length bytes ≡ B * block_
   short-value : is_long e.head ≡ false → value_of e ≡ take (length_in e.head) (drop (p * block_size + 8) bytes)
   unfolding value_of body_of
   short-value no-data =
-      simp (no-data, inline, if-false, own)
+      simp (no-data, inline, own)
       (part-of-take (length_in e.head) 8 block_size (drop (p * block_size) bytes) (omega (arith, kind-short kind no-data))
       ∙ ap (take (length_in e.head)) (drop-drop 8 (p * block_size) bytes))
 
@@ -181,7 +181,7 @@ module _ (B cycle : ℕ) (bytes : List ℕ) (sized : length bytes ≡ B * block_
   long-bytes has-data =
       let behind : List ℕ = drop (s.scan.data_end * block_size) bytes in
       let n : ℕ = data_of e.head in
-      simp (has-data, if-true, contents, offset-of has-data)
+      simp (has-data, contents, offset-of has-data)
       (ap (take (length_in e.head)) (concat-pieces n block_size behind)
       ∙ take-take (length_in e.head) (n * block_size) behind (kind-long kind has-data).2)
 
@@ -189,7 +189,7 @@ module _ (B cycle : ℕ) (bytes : List ℕ) (sized : length bytes ≡ B * block_
   unfolding body_of crc32_of
   long-check has-data =
       let rest : drop 4 (drop 8 block) ≡ drop 12 block = drop-drop 4 8 block in
-      simp (inline, has-data, if-true, rest)
+      simp (inline, has-data, rest)
       (ap number_of (sym (take_all 4 (drop 12 block) (omega (arith, length-drop 12 block, whole)))))
 
   long-value : is_long e.head ≡ true → LiesLong bytes p block e

@@ -1,4 +1,5 @@
 -- Every entry that is made is proper: a done, a deletion, and a value of any length that fits its field.
+use Rattle.std.specs.Prelude.{if◌then◌else◌}
 use mathlib.Core.Path.{◌≡◌, refl, ap, ◌∙◌}
 use mathlib.Core.Bool.{Bool, true, false}
 use mathlib.Core.List.{List, ◌++◌}
@@ -8,13 +9,13 @@ use lib.Dec.{ltb}
 use lib.ListN.{length, length-append, length-drop}
 use lib.Seq.{drop_at, length-take-le}
 use borrow.Author.Tests.{ltb-true, ltb-false}
-use Rattle.rules.specs.Notation.{if◌then◌else◌, pieces, bytes_of, erased, is_erased, Each, empty, each}
+use Rattle.rules.specs.Notation.{pieces, bytes_of, erased, is_erased, Each, empty, each}
 use Rattle.rules.specs.Ground.{block_size, reserved_id}
 use Rattle.rules.specs.Checksum.{crc32}
 use Rattle.rules.specs.Look.{value, data_of, data_blocks}
 use Rattle.rules.specs.Stores.{done_entry, deletion_entry, value_entry}
 use Rattle.rules.proofs.Terms.{IsBlock, HeadFits, fits-done, fits-deletion, fits-small, fits-long, IsProper}
-use Rattle.rules.proofs.Basics.Notation.{if-true, if-false, erased-is, length-erased, length-bytes_of}
+use Rattle.rules.proofs.Basics.Notation.{erased-is, length-erased, length-bytes_of}
 use Rattle.rules.proofs.Format.Entry.{length-padded}
 use Rattle.rules.proofs.Basics.Parts.{each_take, each-drop, each_append, each-either}
 use Rattle.rules.proofs.Blocks.Written.{each-bytes_of, each-erased}
@@ -43,11 +44,10 @@ module _ (id : ℕ) (named : id < 2 ^ 32) (user : id ≡ reserved_id → ⊥) wh
   value-fits bytes one short = go (ltb 8 (length bytes)) refl
     where
       go : (long : Bool) → ltb 8 (length bytes) ≡ long → HeadFits (value id (length bytes)) (if long then bytes_of 4 (crc32 bytes) else bytes ++ erased (8 - length bytes))
-      go true many = simp if-true (fits-long named user (ltb-true 8 (length bytes) many) short (length-bytes_of 4 (crc32 bytes)))
+      go true many = fits-long named user (ltb-true 8 (length bytes) many) short (length-bytes_of 4 (crc32 bytes))
       go false few =
           let pad : List ℕ = erased (8 - length bytes) in
           let small : length bytes ≤ 8 = ltb-false 8 (length bytes) few in
-          simp if-false
           (fits-small named user one small (length-padded bytes small) (ap is_erased (drop_at bytes pad (length bytes) refl) ∙ erased-is (8 - length bytes)))
 
   pub value-proper : {bytes : List ℕ} → Each (λ b. b < 256) bytes → 1 ≤ length bytes → length bytes < 2 ^ 16 → IsProper (value_entry id bytes)

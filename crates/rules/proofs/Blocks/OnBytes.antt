@@ -10,7 +10,7 @@ use Rattle.rules.specs.Stores.{Store, apply, apply_bytes}
 use Rattle.rules.specs.Calls.{Due, refuse, Refusal, geometry, made, at_sizes, mount_on, write_on, delete_on, mount_due, write_due, delete_due, leaves}
 use Rattle.rules.specs.Demands.{Call, mount, write, delete, due}
 use Rattle.rules.proofs.Terms.{IsInside, IsSector, IsImage}
-use Rattle.rules.proofs.Basics.Notation.{both_true, if-true, if-false}
+use Rattle.rules.proofs.Basics.Notation.{both_true}
 use Rattle.rules.proofs.Format.Ground.{store-block, length-store-bytes, legal-bounds, length-pieces}
 use native.Mathlib.Nat.{suc-mul}
 use native.Mathlib.Omega.{arith}
@@ -102,13 +102,13 @@ pub record HasBlocks (size count : ℕ) (image : List ℕ) (im : Image) : Type 0
 pub call-off {ℓ} : {A : Type ℓ} (size count : ℕ) (image : List ℕ) → legal_sizes size count (length image) ≡ false
     → (refusal : Refusal → A) (call : (B S : ℕ) → Image → A) → at_sizes size count image refusal call ≡ refusal geometry
 unfolding at_sizes
-call-off size count image off refusal call = simp (off, if-false)
+call-off size count image off refusal call = simp off
 
 module _ (size count : ℕ) {image : List ℕ} {im : Image} (c : HasBlocks size count image im) where
   pub call-on {ℓ} : {A : Type ℓ} (refusal : Refusal → A) (call : (B S : ℕ) → Image → A)
       → at_sizes size count image refusal call ≡ call (size / block_size) count im
   unfolding at_sizes
-  call-on refusal call = simp (c.legal, if-true, c.blocks)
+  call-on refusal call = simp (c.legal, c.blocks)
 
   pub due-on : (call : Call) → due size count image call ≡ due_on (size / block_size) count im call
   unfolding due due_on mount_due write_due delete_due

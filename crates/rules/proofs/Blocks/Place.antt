@@ -1,4 +1,5 @@
 -- Where a reading stands: data blocks, needs and entries balance, so that entries and data never meet.
+use Rattle.std.specs.Prelude.{if◌then◌else◌}
 use mathlib.Core.Path.{◌≡◌, refl, sym, ap, ◌∙◌, subst}
 use mathlib.Core.Bool.{Bool, true, false, not, false≢true, or-false}
 use mathlib.Core.List.{List, []}
@@ -8,11 +9,9 @@ use native.Mathlib.Nat.{not-suc-le-zero}
 use native.Mathlib.Omega.{arith}
 use lib.ListN.{get_or}
 use borrow.Author.Tests.{leb-true}
-use Rattle.rules.specs.Notation.{if◌then◌else◌}
 use Rattle.rules.specs.Ground.{Sector, kept_from_values, kept_from_deletions}
 use Rattle.rules.specs.Look.{Head, done, deletion, value, Scan, start, after, data_blocks, need_of, data_of, is_done, is_within, Verdict, entry, blank, other_cycle, wrong_check, wrong_form, over_limit, look, is_entry}
 use Rattle.rules.specs.Reading.{Entry, entry_at, entries_below, entries_of, after_all, end_block, end_verdict}
-use Rattle.rules.proofs.Basics.Notation.{if-true, if-false}
 use Rattle.rules.proofs.Format.Look.{look-entry}
 use Rattle.rules.proofs.Blocks.Reading.{entries-more, entries-end, Took, took-none, took_more, took-down}
 
@@ -22,13 +21,12 @@ pub record Place (B p : ℕ) (scan : Scan) : Type 0 where
   pub room : scan.needs + 4 ≤ B
 
 at_most_one : (b : Bool) → (if b then 1 else 0) ≤ 1
-unfolding if◌then◌else◌
 at_most_one true = omega arith
 at_most_one false = omega arith
 
 pub place-start : (B : ℕ) → 8 ≤ B → Place B (B - 2) start
 unfolding start
-place-start B h = record { balance = simp if-false (omega arith); room = omega arith }
+place-start B h = record { balance = (omega arith); room = omega arith }
 
 -- so there is a block left, above the data in use
 pub place-data : {B p : ℕ} {scan : Scan} → Place B p scan → scan.data_end < p
@@ -41,8 +39,8 @@ place-step {B} {p} {scan} done within place = go scan.done refl
     go : (b : Bool) → scan.done ≡ b → Place B p (after scan done)
     go true same = absurd (false≢true (sym (ap not same) ∙ within))
     go false same =
-        let before : ◌≡◌ {A = ℕ} (if scan.done then 1 else 0) 0 = simp (same, if-false) in
-        record { balance = simp (same, if-true) (omega (arith, place.balance, before)); room = omega (arith, place) }
+        let before : ◌≡◌ {A = ℕ} (if scan.done then 1 else 0) 0 = simp same in
+        record { balance = simp same (omega (arith, place.balance, before)); room = omega (arith, place) }
 place-step {B} {scan = scan} (deletion id) within place =
     record { balance = simp or-false (omega (arith, place.balance)); room = omega (arith, place, leb-true (scan.needs + 1) (B - kept_from_deletions) within) }
 place-step {B} {scan = scan} (value id len) within place =

@@ -1,4 +1,5 @@
 -- Every entry that is read from a whole sector is proper.
+use Rattle.std.specs.Prelude.{if◌then◌else◌}
 use mathlib.Core.Path.{◌≡◌, ◌∙◌, subst}
 use mathlib.Core.List.{List, []}
 use Prim.Native.Nat.{ℕ, zero, suc, ◌+◌, ◌^◌, ◌<◌, ◌≤◌}
@@ -7,13 +8,12 @@ use native.Mathlib.Omega.{arith}
 use lib.ListN.{length, get_or, take, drop, length-drop}
 use lib.Seq.{length-take-le}
 use borrow.Author.Tests.{lt-ltb, le-ltb}
-use Rattle.rules.specs.Notation.{if◌then◌else◌, number_of, Each, empty, each}
+use Rattle.rules.specs.Notation.{number_of, Each, empty, each}
 use Rattle.rules.specs.Ground.{Block, Sector}
 use Rattle.rules.specs.Entry.{length_of, id_of, body_of}
 use Rattle.rules.specs.Look.{Head, Scan, after, data_of, entry, head_of, look}
 use Rattle.rules.specs.Reading.{Entry, is_long, entry_at, entries_of}
 use Rattle.rules.proofs.Terms.{IsBlock, IsSector, HeadFits, fits-done, fits-deletion, fits-small, fits-long, IsProper}
-use Rattle.rules.proofs.Basics.Notation.{if-true, if-false}
 use Rattle.rules.proofs.Format.Look.{Kind, is-done, is-deletion, is-small-value, is-long-value, form-kind, look-entry}
 use Rattle.rules.proofs.Basics.Parts.{each_at, each_take, each-drop, each-either}
 use Rattle.rules.proofs.Blocks.Reading.{Took, took-none, took_more}
@@ -29,12 +29,12 @@ number-below (suc k) (each b bs) = let ih : _ = number-below k bs in rw pow-suc 
 fits-kind : {data_end id len : ℕ} {body : List ℕ} {head : Head} → id < 2 ^ 32 → len < 2 ^ 16 → length body ≡ 8 → Kind data_end id len body head
     → HeadFits head (if is_long head then drop 4 body else body)
 unfolding is_long
-fits-kind named short whole (is-done reserved zeroes padded) = simp if-false (fits-done whole padded)
-fits-kind named short whole (is-deletion other zeroes padded) = simp if-false (fits-deletion named other whole padded)
+fits-kind named short whole (is-done reserved zeroes padded) = fits-done whole padded
+fits-kind named short whole (is-deletion other zeroes padded) = fits-deletion named other whole padded
 fits-kind {len = len} named short whole (is-small-value other one few padded) =
-    simp (le-ltb 8 len few, if-false) (fits-small named other one few whole padded)
+    simp (le-ltb 8 len few) (fits-small named other one few whole padded)
 fits-kind {len = len} {body = body} named short whole (is-long-value other many placed) =
-    simp (lt-ltb 8 len many, if-true) (fits-long named other many short (length-drop 4 body ∙ omega arith))
+    simp (lt-ltb 8 len many) (fits-long named other many short (length-drop 4 body ∙ omega arith))
 
 module _ (B cycle : ℕ) {sector : Sector} (is : IsSector B sector) where
   proper-at : (p : ℕ) (scan : Scan) {head : Head} → p < B → scan.data_end + data_of head ≤ B → look B cycle scan (get_or sector p []) ≡ entry head

@@ -16,25 +16,25 @@ use Rattle.rules.specs.Reading.{Entry, is_long}
 use Rattle.rules.specs.Meaning.{is_value, length_in}
 use Rattle.rules.specs.Stores.{id_in, entry_block, done_entry, deletion_entry, value_entry}
 use Rattle.rules.proofs.Terms.{HeadFits, fits-small, fits-long}
-use Rattle.rules.proofs.Basics.Notation.{if-true, if-false, is-erased}
+use Rattle.rules.proofs.Basics.Notation.{is-erased}
 
 module _ (cycle data_end : ℕ) where
   pub stored-done : entry_block cycle data_end done_entry ≡ done_block cycle
   unfolding entry_block done_entry is_long length_in id_in done_block close_block
-  stored-done = simp if-false
+  stored-done = refl
 
   pub stored-deletion : (id : ℕ) → entry_block cycle data_end (deletion_entry id) ≡ deletion_block cycle id
   unfolding entry_block deletion_entry is_long length_in id_in deletion_block
-  stored-deletion id = simp if-false
+  stored-deletion id = refl
 
   pub stored-small : (id : ℕ) (bytes : List ℕ) → length bytes ≤ 8 → entry_block cycle data_end (value_entry id bytes) ≡ small_value_block cycle id bytes
   unfolding entry_block value_entry is_long length_in id_in small_value_block
-  stored-small id bytes few = simp (le-ltb 8 (length bytes) few, if-false)
+  stored-small id bytes few = simp (le-ltb 8 (length bytes) few)
 
   pub stored-long : (id : ℕ) (bytes : List ℕ) → 8 < length bytes
       → entry_block cycle data_end (value_entry id bytes) ≡ long_value_block cycle id (length bytes) (data_end * block_size) (crc32 bytes)
   unfolding entry_block value_entry is_long length_in id_in long_value_block numbers
-  stored-long id bytes many = simp (lt-ltb 8 (length bytes) many, if-true)
+  stored-long id bytes many = simp (lt-ltb 8 (length bytes) many)
 
 -- the bytes of the number that bytes hold
 pub bytes-number : {bytes : List ℕ} → Each (λ b. b < 256) bytes → bytes_of (length bytes) (number_of bytes) ≡ bytes
@@ -75,11 +75,11 @@ module _ (cycle data_end id len : ℕ) (inline : List ℕ) (blocks : List Block)
       is-erased (drop len inline) padded ∙ ap erased (length-drop len inline ∙ omega arith) in
       let whole : inline ≡ take len inline ++ erased (8 - length (take len inline)) =
       sym (take-append-drop len inline) ∙ ap (λ (l : List ℕ). take len inline ++ l) pad in
-      simp (le-ltb 8 len few, if-false)
+      simp (le-ltb 8 len few)
       (ap (λ (n : ℕ). encode cycle n id inline) (sym taken) ∙ ap (encode cycle (length (take len inline)) id) whole)
 
   pub copied-long : 8 < len → length inline ≡ 4 → Each (λ b. b < 256) inline → entry_block cycle data_end copy ≡ long_value_block cycle id len (data_end * block_size) (number_of inline)
   unfolding entry_block is_long length_in id_in long_value_block numbers
   copied-long many sized bytes =
-      simp (lt-ltb 8 len many, if-true)
+      simp (lt-ltb 8 len many)
       (ap (λ (l : List ℕ). encode cycle len id (bytes_of 4 (data_end * block_size) ++ l)) (sym (ap (λ (k : ℕ). bytes_of k (number_of inline)) (sym sized) ∙ bytes-number bytes)))

@@ -16,7 +16,7 @@ use Rattle.rules.specs.Look.{data_blocks}
 use Rattle.rules.specs.Reading.{Entry, is_long}
 use Rattle.rules.specs.Meaning.{length_in, value_of, is_sound}
 use Rattle.rules.specs.Stores.{value_entry}
-use Rattle.rules.proofs.Basics.Notation.{if-true, if-false, number-bytes, length-erased, by-test}
+use Rattle.rules.proofs.Basics.Notation.{number-bytes, length-erased, by-test}
 use Rattle.rules.proofs.Format.Checksum.{crc32-below}
 
 -- pieces put together again
@@ -35,22 +35,22 @@ byte_at (each p ps) (suc i) = byte_at ps i
 -- the data blocks hold all bytes of a long value
 pub roomy : (len : ℕ) → 8 < len → len ≤ data_blocks len * block_size
 unfolding data_blocks
-roomy len many = simp (lt-leb len 8 many, if-false) (omega arith)
+roomy len many = simp (lt-leb len 8 many) (omega arith)
 
 -- a CRC-32 is right where there is none to be wrong, or it is the value's
 sound-short : (e : Entry) → is_long e.head ≡ false → is_sound e ≡ true
 unfolding is_sound
-sound-short e short = simp (short, if-false)
+sound-short e short = simp short
 
 sound-long : (e : Entry) → is_long e.head ≡ true → number_of e.inline ≡ crc32 (value_of e) → is_sound e ≡ true
 unfolding is_sound
-sound-long e long same = simp (long, if-true) (eq-eqb _ _ same)
+sound-long e long same = simp long (eq-eqb _ _ same)
 
 module _ (id : ℕ) (bytes : List ℕ) where
   -- what a short and a long value keep, before so many bytes are taken
   kept-short : length bytes ≤ 8 → value_of (value_entry id bytes) ≡ bytes
   unfolding value_of value_entry is_long length_in
-  kept-short few = simp (le-ltb 8 (length bytes) few, if-false) (take_at bytes (erased (8 - length bytes)) (length bytes) refl)
+  kept-short few = simp (le-ltb 8 (length bytes) few) (take_at bytes (erased (8 - length bytes)) (length bytes) refl)
 
   kept-long : 8 < length bytes → value_of (value_entry id bytes) ≡ bytes
   unfolding value_of value_entry is_long length_in
@@ -58,7 +58,7 @@ module _ (id : ℕ) (bytes : List ℕ) where
       let n : ℕ = data_blocks (length bytes) in
       let pad : List ℕ = erased (n * block_size - length bytes) in
       let whole : length (bytes ++ pad) ≤ n * block_size = omega (arith, length-append bytes pad, length-erased (n * block_size - length bytes), roomy (length bytes) many) in
-      simp (lt-ltb 8 (length bytes) many, if-true)
+      simp (lt-ltb 8 (length bytes) many)
       (ap (take (length bytes)) (concat-pieces n block_size (bytes ++ pad) ∙ take_all (n * block_size) (bytes ++ pad) whole) ∙ take_at bytes pad (length bytes) refl)
 
   head-long : is_long (value_entry id bytes).head ≡ ltb 8 (length bytes)
@@ -67,7 +67,7 @@ module _ (id : ℕ) (bytes : List ℕ) where
 
   rest-long : ltb 8 (length bytes) ≡ true → (value_entry id bytes).inline ≡ bytes_of 4 (crc32 bytes)
   unfolding value_entry
-  rest-long e = simp (e, if-true)
+  rest-long e = simp e
 
   pub entry_value : value_of (value_entry id bytes) ≡ bytes
   entry_value = by-test (ltb 8 (length bytes)) (λ e. kept-long (ltb-true _ _ e)) (λ e. kept-short (ltb-false _ _ e))

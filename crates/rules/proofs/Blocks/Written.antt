@@ -1,4 +1,5 @@
 -- What an entry's block holds is read back as the same entry, and every block that is made is a whole one.
+use Rattle.std.specs.Prelude.{if◌then◌else◌}
 use mathlib.Core.Path.{◌≡◌, refl, ap, ◌∙◌}
 use mathlib.Core.Bool.{Bool, true, false}
 use mathlib.Core.List.{List, [], ◌++◌}
@@ -7,7 +8,7 @@ use native.Mathlib.Omega.{arith}
 use lib.ListN.{length, get_or, take, drop, length-append}
 use lib.Seq.{take_at, drop_at}
 use borrow.Author.Tests.{lt-ltb, le-ltb}
-use Rattle.rules.specs.Notation.{if◌then◌else◌, bytes_of, number_of, erased, Each, empty, each}
+use Rattle.rules.specs.Notation.{bytes_of, number_of, erased, Each, empty, each}
 use Rattle.rules.specs.Ground.{Sector, block_size, reserved_id, blank_block}
 use Rattle.rules.specs.Entry.{cycle_of, body_of, fields, sealed, encode, numbers, lead_length, lead_mark, lead_block, close_block}
 use Rattle.rules.specs.Look.{Head, Scan, data_of, entry, is_within, judge, look}
@@ -15,7 +16,7 @@ use Rattle.rules.specs.Reading.{Entry, is_long, entry_at, view_of}
 use Rattle.rules.specs.Meaning.{length_in}
 use Rattle.rules.specs.Stores.{id_in, entry_block}
 use Rattle.rules.proofs.Terms.{IsBlock, IsSector, HeadFits, fits-done, fits-deletion, fits-small, fits-long, IsProper}
-use Rattle.rules.proofs.Basics.Notation.{if-true, if-false, length-bytes_of, number-bytes, length-erased}
+use Rattle.rules.proofs.Basics.Notation.{length-bytes_of, number-bytes, length-erased}
 use Rattle.rules.proofs.Format.Checksum.{crc8-below}
 use Rattle.rules.proofs.Format.Entry.{Fit, body-encode, length-encode, length-numbers}
 use Rattle.rules.proofs.Format.Look.{Kind, is-done, is-deletion, is-small-value, is-long-value}
@@ -68,19 +69,19 @@ body_at data_end head rest = if is_long head then bytes_of 4 (data_end * block_s
 module _ (data_end : ℕ) where
   fit-head : {head : Head} {rest : List ℕ} → HeadFits head rest → Fit (length_in head) (id_in head) (body_at data_end head rest)
   unfolding is_long length_in id_in
-  fit-head (fits-done whole padded) = record { short = omega arith; named = omega arith; whole = simp if-false whole }
-  fit-head (fits-deletion named user whole padded) = record { short = omega arith; named = named; whole = simp if-false whole }
-  fit-head (fits-small {len = len} named user one few whole padded) = record { short = omega arith; named = named; whole = simp (le-ltb 8 len few, if-false) whole }
+  fit-head (fits-done whole padded) = record { short = omega arith; named = omega arith; whole = whole }
+  fit-head (fits-deletion named user whole padded) = record { short = omega arith; named = named; whole = whole }
+  fit-head (fits-small {len = len} named user one few whole padded) = record { short = omega arith; named = named; whole = simp (le-ltb 8 len few) whole }
   fit-head (fits-long {len = len} {rest = rest} named user many short whole) =
-      record { short = short; named = named; whole = simp (lt-ltb 8 len many, if-true, length-append, length-bytes_of) (omega arith) }
+      record { short = short; named = named; whole = simp (lt-ltb 8 len many, length-append, length-bytes_of) (omega arith) }
 
   kind-head : {head : Head} {rest : List ℕ} → data_end * block_size < 2 ^ 32 → HeadFits head rest → Kind data_end (id_in head) (length_in head) (body_at data_end head rest) head
   unfolding is_long length_in id_in
-  kind-head near (fits-done whole padded) = simp if-false (is-done refl refl padded)
-  kind-head near (fits-deletion named user whole padded) = simp if-false (is-deletion user refl padded)
-  kind-head near (fits-small {len = len} named user one few whole padded) = simp (le-ltb 8 len few, if-false) (is-small-value user one few padded)
+  kind-head near (fits-done whole padded) = is-done refl refl padded
+  kind-head near (fits-deletion named user whole padded) = is-deletion user refl padded
+  kind-head near (fits-small {len = len} named user one few whole padded) = simp (le-ltb 8 len few) (is-small-value user one few padded)
   kind-head near (fits-long {len = len} {rest = rest} named user many short whole) =
-      simp (lt-ltb 8 len many, if-true)
+      simp (lt-ltb 8 len many)
       (is-long-value user many (ap number_of (take_at (bytes_of 4 (data_end * block_size)) rest 4 (length-bytes_of 4 (data_end * block_size))) ∙ number-bytes 4 (data_end * block_size) near))
 
 -- only a done has the reserved ID, and it has no length
@@ -105,12 +106,12 @@ pub look-written : (B cycle : ℕ) (scan : Scan) {e : Entry} → IsProper e → 
 unfolding entry_block judge
 look-written B cycle scan {e} proper near within =
     look-kind cycle _ _ _ (fit-head scan.data_end proper.fits) (no_lead proper.fits) B scan (kind-head scan.data_end near proper.fits)
-    ∙ simp (within, if-true)
+    ∙ simp within
 
 rest_back : (b : Bool) (n : ℕ) (rest : List ℕ)
     → (if b then drop 4 (if b then bytes_of 4 n ++ rest else rest) else (if b then bytes_of 4 n ++ rest else rest)) ≡ rest
-rest_back true n rest = simp if-true (drop_at (bytes_of 4 n) rest 4 (length-bytes_of 4 n))
-rest_back false n rest = simp if-false
+rest_back true n rest = drop_at (bytes_of 4 n) rest 4 (length-bytes_of 4 n)
+rest_back false n rest = refl
 
 pub entry-written : (cycle : ℕ) (sector : Sector) (p : ℕ) (scan : Scan) (e : Entry) → get_or sector p [] ≡ entry_block cycle scan.data_end e
     → take (data_of e.head) (drop scan.data_end sector) ≡ e.blocks → entry_at sector p scan e.head ≡ e

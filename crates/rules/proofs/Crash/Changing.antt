@@ -1,4 +1,5 @@
 -- A write or a delete, cut anywhere and whole: at every cut the old values are told, whole the new one.
+use Rattle.std.specs.Prelude.{if◌then◌else◌}
 use mathlib.Core.Path.{◌≡◌, refl, sym, ap, subst, ◌∙◌}
 use mathlib.Core.Bool.{Bool, true}
 use mathlib.Core.List.{List, [], ◌∷◌, ◌++◌, map, map-append, tail, append_assoc}
@@ -7,7 +8,7 @@ use Prim.Native.Nat.{ℕ, zero, suc, ◌+◌, ◌<◌, ◌≤◌}
 use native.Mathlib.Nat.{not-suc-le-zero}
 use native.Mathlib.Omega.{arith}
 use lib.ListN.{length, get_or, length-append, length-map, get_or-append}
-use Rattle.rules.specs.Notation.{if◌then◌else◌, when, concat, times}
+use Rattle.rules.specs.Notation.{when, concat, times}
 use Rattle.rules.specs.Ground.{Image}
 use Rattle.rules.specs.Look.{Scan, start, need_of, is_within}
 use Rattle.rules.specs.Reading.{Entry, View, after_all}
@@ -23,7 +24,7 @@ use Rattle.rules.proofs.Blocks.Append.{append-atomic}
 use Rattle.rules.proofs.Ring.Changes.{lookup-other, lookup-named}
 use Rattle.rules.proofs.Ring.Turns.{live-rotated}
 use Rattle.rules.proofs.Ring.Fits.{IsLeast, open_needs, turns-least}
-use Rattle.rules.proofs.Basics.Notation.{if-true, if-false, by-test}
+use Rattle.rules.proofs.Basics.Notation.{by-test}
 use Rattle.rules.proofs.Crash.Standing.{turned, turned-matches, concat-snoc, Stands, Rests, rests-stand, entries_each-append}
 use Rattle.rules.proofs.Crash.Shifts.{at_size, two-of, sized-changed}
 use Rattle.rules.proofs.Crash.Turning.{image-after, turn-goes}
@@ -113,8 +114,8 @@ needs-turned (suc t) ring h = needs-turned t (turned ring) (omega (arith, length
 lookup-added : (id : ℕ) (xs : List Entry) (e : Entry) → lookup id (xs ++ (e ∷ [])) ≡ (if is_named id e.head then when (is_value e.head) e else lookup id xs)
 lookup-added id xs e =
     by-test (is_named id e.head)
-    (λ named. lookup-named id xs e named ∙ sym (ap (λ (b : Bool). if b then when (is_value e.head) e else lookup id xs) named ∙ if-true _ _))
-    (λ other. lookup-other id xs e other ∙ sym (ap (λ (b : Bool). if b then when (is_value e.head) e else lookup id xs) other ∙ if-false _ _))
+    (λ named. lookup-named id xs e named ∙ sym (ap (λ (b : Bool). if b then when (is_value e.head) e else lookup id xs) named))
+    (λ other. lookup-other id xs e other ∙ sym (ap (λ (b : Bool). if b then when (is_value e.head) e else lookup id xs) other))
 
 module _ (S : ℕ) (two : 2 ≤ S) where
   -- a ring has an oldest sector, and ends in the working one

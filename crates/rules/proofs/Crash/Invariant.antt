@@ -1,5 +1,6 @@
 -- The invariant of demand 3: what holds after a format, is kept by every call with any allowance, and makes the next mount
 -- succeed. Layers above see `Invariant` alone.
+use Rattle.std.specs.Prelude.{if◌then◌else◌}
 use mathlib.Core.Path.{◌≡◌, refl, sym, ap, subst, subst₂, ◌∙◌}
 use mathlib.Core.Bool.{Bool, true, false}
 use mathlib.Core.List.{List}
@@ -9,7 +10,7 @@ use Prim.Native.Nat.{ℕ, ◌/◌}
 use lib.Dec.{eqb}
 use lib.ListN.{length}
 use borrow.Author.Tests.{eq-eqb, ne_eqb, eqb-true, eqb-false}
-use Rattle.rules.specs.Notation.{if◌then◌else◌, when}
+use Rattle.rules.specs.Notation.{when}
 use Rattle.rules.specs.Ground.{block_size, legal_sizes, image_of}
 use Rattle.rules.specs.Reading.{Entry}
 use Rattle.rules.specs.Meaning.{is_named, is_value}
@@ -17,7 +18,7 @@ use Rattle.rules.specs.Stores.{value_entry, deletion_entry}
 use Rattle.rules.specs.Calls.{Due, answer, answer_numbers, leaves}
 use Rattle.rules.specs.Demands.{Call, mount, write, delete, Typed, writes, AreBytes, IsUser, Model, assign, model_after, due, budget, Run, step, views, Matches, matches_nothing, matches_value}
 use Rattle.rules.proofs.Terms.{IsImage}
-use Rattle.rules.proofs.Basics.Notation.{if-true, if-false, when_true, by-test}
+use Rattle.rules.proofs.Basics.Notation.{when_true, by-test}
 use Rattle.rules.proofs.Crash.Standing.{Stands, rests-stand}
 use Rattle.rules.proofs.Crash.Mounting.{SettledAt}
 use Rattle.rules.proofs.Crash.Changing.{updated}
@@ -34,19 +35,19 @@ pub record Invariant (size count : ℕ) (image : List ℕ) (model : Model) : Typ
 
 -- what is told of an ID that an entry names, and of any other
 pub updated-named : (e : Entry) (T : ℕ → Option Entry) (i : ℕ) → is_named i e.head ≡ true → updated e T i ≡ when (is_value e.head) e
-updated-named e T i named = simp (named, if-true)
+updated-named e T i named = simp named
 
 pub updated-other : (e : Entry) (T : ℕ → Option Entry) (i : ℕ) → is_named i e.head ≡ false → updated e T i ≡ T i
-updated-other e T i other = simp (other, if-false)
+updated-other e T i other = simp other
 
 -- the book's side of it
 assigned : (model : Model) (id : ℕ) (entry : Option (List ℕ)) → assign model id entry id ≡ entry
 unfolding assign
-assigned model id entry = simp (eq-eqb id id refl, if-true)
+assigned model id entry = simp (eq-eqb id id refl)
 
 assigned-other : (model : Model) (id : ℕ) (entry : Option (List ℕ)) (i : ℕ) → (i ≡ id → ⊥) → assign model id entry i ≡ model i
 unfolding assign
-assigned-other model id entry i other = simp (ne_eqb i id other, if-false)
+assigned-other model id entry i other = simp (ne_eqb i id other)
 
 module _ (T : ℕ → Option Entry) (model : Model) (matches : (id : ℕ) → IsUser id → Matches (T id) (model id)) where
   -- an entry of an ID changes what is told, and the book, of that ID alone
@@ -83,10 +84,10 @@ deletion-matches id = matches_nothing
 
 -- the book after a call: changed on 0, alone on any other number
 kept-done : (number : ℕ) (new model : Model) → number ≡ 0 → (if eqb number 0 then new else model) ≡ new
-kept-done number new model done = simp (eq-eqb number 0 done, if-true)
+kept-done number new model done = simp (eq-eqb number 0 done)
 
 kept-other : (number : ℕ) (new model : Model) → (number ≡ 0 → ⊥) → (if eqb number 0 then new else model) ≡ model
-kept-other number new model other = simp (ne_eqb number 0 other, if-false)
+kept-other number new model other = simp (ne_eqb number 0 other)
 
 model-changed : (call : Call) (number : ℕ) (T : ℕ → Option Entry) (model : Model) → Typed call → number ≡ 0 → ((id : ℕ) → IsUser id → Matches (T id) (model id))
     → (i : ℕ) → IsUser i → Matches (lookup-after call T i) (model_after call number model i)

@@ -1,4 +1,5 @@
 -- What an answer 0 says of the call: it was not refused, so the sizes are legal, and a write or a delete began at rest.
+use Rattle.std.specs.Prelude.{if◌then◌else◌}
 use mathlib.Core.Path.{◌≡◌, refl, sym, ap, ◌∙◌}
 use mathlib.Core.Bool.{Bool, true, false}
 use mathlib.Core.List.{List}
@@ -9,7 +10,7 @@ use native.Mathlib.Omega.{arith}
 use lib.Dec.{eqb, leb, ltb}
 use lib.ListN.{length}
 use borrow.Author.Tests.{eqb-false, leb-true, leb-false}
-use Rattle.rules.specs.Notation.{if◌then◌else◌, is_empty}
+use Rattle.rules.specs.Notation.{is_empty}
 use Rattle.rules.specs.Ground.{Image, block_size, legal_sizes, image_of, reserved_id, kept_from_values, kept_from_deletions}
 use Rattle.rules.specs.Look.{need_of}
 use Rattle.rules.specs.Reading.{Entry}
@@ -46,13 +47,12 @@ module _ (a : ℕ) where
 
   -- a check that was passed
   passed : (b : Bool) (r : Refusal) (what : Due) → Lands (if b then refuse r else what) a → (b ≡ false) × Lands what a
-  unfolding if◌then◌else◌
   passed true r what e = absurd (refused-not r e)
   passed false r what e = (refl, e)
 
   sized : (size count : ℕ) (image : List ℕ) (call : (B S : ℕ) → Image → Due) → Lands (at_sizes size count image refuse call) a
       → (legal_sizes size count (length image) ≡ true) × Lands (call (size / block_size) count (image_of (size / block_size) count image)) a
-  unfolding at_sizes if◌then◌else◌
+  unfolding at_sizes
   sized size count image call e = go (legal_sizes size count (length image)) refl e
     where
       go : (b : Bool) → legal_sizes size count (length image) ≡ b → Lands (if b then call (size / block_size) count (image_of (size / block_size) count image) else refuse geometry) a

@@ -18,7 +18,7 @@ use Rattle.rules.specs.Stores.{Store, apply, value_entry, deletion_entry}
 use Rattle.rules.specs.Calls.{Due, Refusal, geometry, no_store, unfinished, reserved, empty, too_long, no_room, absent, bad_data, short_buffer, refusal_number, answer, answer_numbers, made, leaves}
 use Rattle.rules.specs.Demands.{Call, mount, write, delete, Typed, writes, deletes, IsId, AreBytes, due, views}
 use Rattle.rules.proofs.Terms.{IsImage, IsInside}
-use Rattle.rules.proofs.Basics.Notation.{if-true, if-false, by-test}
+use Rattle.rules.proofs.Basics.Notation.{by-test}
 use Rattle.rules.proofs.Basics.Parts.{each_take}
 use Rattle.rules.proofs.Format.Ground.{Bounds, legal-bounds}
 use Rattle.rules.proofs.Blocks.OnBytes.{HasBlocks, due_on, due-on, leaves-on, inside-lie}
@@ -60,12 +60,12 @@ module _ (B S : ℕ) (im : Image) {state : State} {T T' : ℕ → Option Entry} 
   effect-stands a (makes plan turns g) s =
       by-test (leb (length (plan im)) a)
       (λ enough.
-      simp (enough, if-true)
+      simp enough
       (inl (
         refl,
         subst (λ (ss : List Store). SettledAt S T' (works_after S turns state) (views_of B (apply ss im))) (sym (take_all a (plan im) (leb-true (length (plan im)) a enough))) g.whole,
       )))
-      (λ short. inr ((λ e. not-cut (simp (short, if-false) at e)), g.cut a (leb-false (length (plan im)) a short)))
+      (λ short. inr ((λ e. not-cut (simp short at e)), g.cut a (leb-false (length (plan im)) a short)))
     where
       not-cut : ◌≡◌ {A = ℕ} 11 0 → ⊥
       not-cut e = omega arith

@@ -16,7 +16,7 @@ use Rattle.rules.specs.Stores.{Store, apply_bytes}
 use Rattle.rules.specs.Calls.{Refusal, short_buffer, read_entry, Due, refuse, make, Reply, found, answer, answer_numbers, made, reply_numbers, buffer_after, leaves, format_due}
 use Rattle.rules.specs.Demands.{Call, Typed, AreBytes, due, FewDiffer}
 use Rattle.rules.proofs.Terms.{IsInside}
-use Rattle.rules.proofs.Basics.Notation.{if-true, if-false, by-test}
+use Rattle.rules.proofs.Basics.Notation.{by-test}
 use Rattle.rules.proofs.Basics.Lists.{sets-stands}
 use Rattle.rules.proofs.Basics.Parts.{each_weaken}
 use Rattle.rules.proofs.Ring.Fits.{each_map}
@@ -39,8 +39,8 @@ unfolding answer answer_numbers
 number-leaves size (refuse r) a bytes not_done not-cut = refusal-leaves size r a bytes
 number-leaves size (make stores turns) a bytes not_done not-cut =
     by-test (leb (length stores) a)
-    (λ enough. absurd (not_done (simp (enough, if-true))))
-    (λ short. absurd (not-cut (simp (short, if-false))))
+    (λ enough. absurd (not_done (simp enough)))
+    (λ short. absurd (not-cut (simp short)))
 
 pub number-buffer : (reply : Reply) (buffer : List ℕ) → ((reply_numbers reply).number ≡ 0 → ⊥) → buffer_after reply buffer ≡ buffer
 unfolding reply_numbers
@@ -50,7 +50,7 @@ number-buffer (Reply.refused r) buffer not_found = refusal-buffer r buffer
 -- "Checked in the order [..] 10, 9": a short buffer is told whatever the data
 pub short-first : (room : ℕ) (e : Entry) → room < length_in e.head → read_entry room (some e) ≡ Reply.refused (short_buffer (length_in e.head))
 unfolding read_entry
-short-first room e short = rw (lt-ltb room (length_in e.head) short, if-true)
+short-first room e short = rw (lt-ltb room (length_in e.head) short)
 
 -- ---- allowances
 

@@ -1,4 +1,5 @@
 -- Demand 2's read-back: what was written is read, what was deleted is absent, and every other ID reads as before.
+use Rattle.std.specs.Prelude.{if◌then◌else◌}
 use mathlib.Core.Path.{◌≡◌, refl, sym, ap, subst, ◌∙◌}
 use mathlib.Core.Bool.{true}
 use mathlib.Core.List.{List}
@@ -8,7 +9,7 @@ use native.Mathlib.Omega.{arith}
 use lib.Dec.{eqb}
 use lib.ListN.{length}
 use borrow.Author.Tests.{eq-eqb, ne_eqb}
-use Rattle.rules.specs.Notation.{if◌then◌else◌, when}
+use Rattle.rules.specs.Notation.{when}
 use Rattle.rules.specs.Ground.{block_size, legal_sizes, image_of, reserved_id}
 use Rattle.rules.specs.Reading.{Entry}
 use Rattle.rules.specs.Meaning.{is_named, is_value}

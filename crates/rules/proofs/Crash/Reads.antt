@@ -1,4 +1,5 @@
 -- What a read gives of an image at rest, whoever made it: the entry that is told, as many bytes as its head says.
+use Rattle.std.specs.Prelude.{if◌then◌else◌}
 use mathlib.Core.Path.{◌≡◌, refl, sym, ap, subst, ◌∙◌}
 use mathlib.Core.Bool.{true}
 use mathlib.Core.List.{List, [], ◌∷◌, ◌++◌}
@@ -9,7 +10,7 @@ use lib.Dec.{eqb, ltb}
 use lib.ListN.{length, take, drop, length-append}
 use lib.Seq.{length-take-le}
 use borrow.Author.Tests.{ne_eqb, lt-ltb, le-ltb, ltb-true, ltb-false}
-use Rattle.rules.specs.Notation.{if◌then◌else◌, concat, Each, empty, each}
+use Rattle.rules.specs.Notation.{concat, Each, empty, each}
 use Rattle.rules.specs.Ground.{Image, Block, block_size, legal_sizes, image_of, reserved_id}
 use Rattle.rules.specs.Look.{Head, data_of}
 use Rattle.rules.specs.Reading.{Entry, View, is_long}
@@ -17,7 +18,7 @@ use Rattle.rules.specs.Meaning.{State, at_rest, not_reopened, mid_turn, Is, view
 use Rattle.rules.specs.Calls.{reserved, Reply, read_entry, reply_numbers, refusal_number, length_told, buffer_after, in_rest, read_on, read}
 use Rattle.rules.specs.Demands.{views, Matches, matches_nothing, matches_value, gives, ReadsAs, reads_nothing, reads_short, reads_value, Reads}
 use Rattle.rules.proofs.Terms.{IsImage, IsBlock, IsProper, HeadFits, fits-done, fits-deletion, fits-small, fits-long}
-use Rattle.rules.proofs.Basics.Notation.{if-true, if-false, by-test}
+use Rattle.rules.proofs.Basics.Notation.{by-test}
 use Rattle.rules.proofs.Format.Ground.{Bounds, legal-bounds}
 use Rattle.rules.proofs.Basics.Parts.{each_append, each_take, each-drop}
 use Rattle.rules.proofs.Basics.Places.{at_each}
@@ -44,9 +45,9 @@ holds : {head : Head} {rest : List ℕ} {blocks : List Block} → HeadFits head 
 unfolding length_in is_long data_of
 holds (fits-done sized padded) number ok = omega arith
 holds (fits-deletion named user sized padded) number ok = omega arith
-holds {blocks = blocks} (fits-small {len = len} {rest = rest} named user one few sized padded) number ok = simp (le-ltb 8 len few, if-false) (omega arith)
+holds {blocks = blocks} (fits-small {len = len} {rest = rest} named user one few sized padded) number ok = simp (le-ltb 8 len few) (omega arith)
 holds {blocks = blocks} (fits-long {len = len} named user many short sized) number ok =
-    simp (lt-ltb 8 len many, if-true) (omega (arith, length-blocks ok, roomy len many))
+    simp (lt-ltb 8 len many) (omega (arith, length-blocks ok, roomy len many))
 
 pub proper-length : (e : Entry) → IsProper e → length (value_of e) ≡ length_in e.head
 unfolding value_of
@@ -61,9 +62,9 @@ reads-by (matches_value {e} sound) proper buffer =
     let n : ℕ = length_in e.head in
     let sized : length (value_of e) ≡ n = proper-length e (proper e refl) in
     by-test (ltb (length buffer) n)
-    (λ short. simp (short, if-true) (subst (λ (k : ℕ). ReadsAs buffer (some (value_of e)) (gives 10 0 0 k) buffer) sized (reads_short (omega (arith, ltb-true (length buffer) n short)))))
+    (λ short. simp short (subst (λ (k : ℕ). ReadsAs buffer (some (value_of e)) (gives 10 0 0 k) buffer) sized (reads_short (omega (arith, ltb-true (length buffer) n short)))))
     (λ enough.
-    simp (enough, if-false, sound, if-true)
+    simp (enough, sound)
     (subst (λ (k : ℕ). ReadsAs buffer (some (value_of e)) (gives 0 0 0 k) (value_of e ++ drop k buffer)) sized (reads_value (omega (arith, ltb-false (length buffer) n enough)))))
 
 -- every entry of an image is proper
@@ -135,5 +136,5 @@ module _ (size count : ℕ) (image : List ℕ) (legal : legal_sizes size count (
   pub settled-reads : (id : ℕ) {entry : Option (List ℕ)} → (id ≡ reserved_id → ⊥) → Matches (T id) entry → Reads size count image id entry
   unfolding Reads
   settled-reads id {entry} user matches buffer =
-      subst (λ (r : Reply). ReadsAs buffer entry (reply_numbers r) (buffer_after r buffer)) (sym (settled-read id (length buffer) ∙ simp (ne_eqb id reserved_id user, if-false)))
+      subst (λ (r : Reply). ReadsAs buffer entry (reply_numbers r) (buffer_after r buffer)) (sym (settled-read id (length buffer) ∙ simp (ne_eqb id reserved_id user)))
       (reads-by matches (lookup-proper id) buffer)

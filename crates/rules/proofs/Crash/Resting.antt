@@ -18,7 +18,7 @@ use Rattle.rules.specs.Meaning.{at_rest, views_of, view_at, next, all_but, count
 use Rattle.rules.specs.Stores.{Store, least_turns, change, value_entry, deletion_entry}
 use Rattle.rules.specs.Calls.{no_room, absent, Due, refuse, make, answer, answer_numbers, Numbers, refusal_number, length_told, in_rest, change_on, write_on, delete_on, write_due, delete_due}
 use Rattle.rules.specs.Demands.{IsUser, Model, views, Matches, matches_nothing, matches_value, gives, Succeeds, IsWritable, IsFull, AtRest}
-use Rattle.rules.proofs.Basics.Notation.{if-false, by-test}
+use Rattle.rules.proofs.Basics.Notation.{by-test}
 use Rattle.rules.proofs.Format.Ground.{Bounds, legal-bounds}
 use Rattle.rules.proofs.Blocks.OnImage.{counted-view}
 use Rattle.rules.proofs.Ring.Order.{ring, all_but_two, next-lt, length-all_but}
@@ -154,13 +154,13 @@ module _ (size count : ℕ) (image : List ℕ) (model : Model) (inv : Invariant 
   unfolding write_due write_on in_rest IsUser
   write-is id bytes ok =
       call-on size count cut refuse (λ B S i. write_on B S i id bytes)
-      ∙ simp (ne_eqb id reserved_id ok.user.1, if-false, filled bytes ok.filled, le-ltb (B - kept_from_values) (need_of (value_entry id bytes).head) (value-need id bytes ok.fits), at_rest_lem)
+      ∙ simp (ne_eqb id reserved_id ok.user.1, filled bytes ok.filled, le-ltb (B - kept_from_values) (need_of (value_entry id bytes).head) (value-need id bytes ok.fits), at_rest_lem)
 
   delete-is : (id : ℕ) (e : Entry) → IsUser id → inv.current id ≡ some e → delete_due size count image id ≡ change_on B count w (B - kept_from_deletions) (deletion_entry id) im
   unfolding delete_due delete_on in_rest IsUser
   delete-is id e user is =
       call-on size count cut refuse (λ B S i. delete_on B S i id)
-      ∙ simp (ne_eqb id reserved_id user.1, if-false, at_rest_lem)
+      ∙ simp (ne_eqb id reserved_id user.1, at_rest_lem)
       (ap (λ (o : Option Entry). elim o [ none ↦ refuse absent | some e ↦ change_on B count w (B - kept_from_deletions) (deletion_entry id) im ]) (lookup-same id ∙ is))
 
   sized : length (views_of B im) ≡ count

@@ -18,7 +18,7 @@ use Rattle.rules.specs.Reading.{Entry, View, view_of}
 use Rattle.rules.specs.Meaning.{State, at_rest, not_reopened, mid_turn, views_of, view_at, state_of, next, all_but, counting, history, lookup, live_each, needs_of}
 use Rattle.rules.specs.Stores.{Store, format, first_fit, least_turns, change, value_entry, deletion_entry}
 use Rattle.rules.specs.Calls.{Due, refuse, make, Refusal, geometry, reserved, empty, too_long, no_room, absent, done, cut, answer, in_state, in_rest, format_on, mount_on, change_on, write_on, delete_on, at_sizes, format_due, mount_due, write_due, delete_due, made}
-use Rattle.rules.proofs.Basics.Notation.{if-true, if-false, if-cases, if-either}
+use Rattle.rules.proofs.Basics.Notation.{if-cases, if-either}
 use Rattle.rules.proofs.Format.Ground.{length-pieces, Bounds, legal-bounds}
 use Rattle.rules.proofs.Due.Few.{IsShort}
 use Rattle.rules.proofs.Due.Bound.{mount-due, change-due}
@@ -30,11 +30,11 @@ use Rattle.rules.proofs.Ring.LiveBySector.{length-live_each}
 -- 11 is "allowance below the stores due": every one from the stores due upward is enough
 pub answer-whole : (stores : List Store) (turns a : ℕ) → length stores ≤ a → answer (make stores turns) a ≡ done (length stores) turns
 unfolding answer
-answer-whole stores turns a enough = simp (le-leb (length stores) a enough, if-true)
+answer-whole stores turns a enough = simp (le-leb (length stores) a enough)
 
 pub answer-cut : (stores : List Store) (turns a : ℕ) → a < length stores → answer (make stores turns) a ≡ cut a
 unfolding answer
-answer-cut stores turns a short = simp (lt-leb (length stores) a short, if-false)
+answer-cut stores turns a short = simp (lt-leb (length stores) a short)
 
 -- ---- what an allowance can cover
 

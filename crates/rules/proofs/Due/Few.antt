@@ -73,7 +73,7 @@ unfolding live_among
 few-live empty later = few-none 0
 few-live (each {x = e} {xs = es} short rest) later =
     let others : AreFew (length es) (live_among es later) = few-live rest later in
-    if-either (AreFew (suc (length es))) _
+    if-either (AreFew (suc (length es))) _ {x = e ∷ live_among es later} {y = live_among es later}
     (λ _. record { number = omega arith; short = each short others.short })
     (λ _. record { number = omega arith; short = others.short })
 

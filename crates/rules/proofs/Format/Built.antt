@@ -12,7 +12,7 @@ use Rattle.rules.specs.Notation.{number_of, erased, is_erased}
 use Rattle.rules.specs.Ground.{Block, block_size, reserved_id}
 use Rattle.rules.specs.Entry.{length_of, id_of, encode, numbers, lead_length, lead_mark, lead_block, close_block, done_block, deletion_block, small_value_block, long_value_block}
 use Rattle.rules.specs.Look.{is_lead, lead_cycle, is_close, Head, done, deletion, value, Scan, entry, form_of, head_of, judge, look}
-use Rattle.rules.proofs.Basics.Notation.{if-false, when_true, refuted, erased-is, is-erased, length-erased}
+use Rattle.rules.proofs.Basics.Notation.{when_true, refuted, erased-is, is-erased, length-erased}
 use Rattle.rules.proofs.Format.Entry.{Fit, checked-encode, cycle-encode, length-of-encode, id-encode, body-encode, length-encode, length-numbers, first-number, length-padded, offset-encode, crc32-encode}
 use Rattle.rules.proofs.Format.Look.{Kind, is-done, is-deletion, is-small-value, is-long-value, kind-form, look-entry, other-cycle-close}
 
@@ -36,7 +36,7 @@ module _ (cycle len id : ℕ) (body : List ℕ) (fit : Fit len id body) (other :
   pub look-encode : (B : ℕ) (scan : Scan) → look B cycle scan (encode cycle len id body) ≡ judge B scan (form_of scan.data_end id len body)
   unfolding look head_of
   look-encode B scan =
-      simp (not-blank, cycle-encode cycle len id body, eq-eqb cycle cycle refl, checked-encode cycle len id body, if-false, id-encode cycle len id body fit.named, length-of-encode cycle len id body fit.short, body-encode cycle len id body)
+      simp (not-blank, cycle-encode cycle len id body, eq-eqb cycle cycle refl, checked-encode cycle len id body, id-encode cycle len id body fit.named, length-of-encode cycle len id body fit.short, body-encode cycle len id body)
 
   -- so a block of any kind of entry is judged as that
   pub look-kind : (B : ℕ) (scan : Scan) {head : Head} → Kind scan.data_end id len body head → look B cycle scan (encode cycle len id body) ≡ judge B scan (some head)

@@ -1,5 +1,6 @@
 -- The laws of the checksums: their check values, a byte as one table lookup, and bounds.
 -- A lookup stands for eight steps because a step only halves what lies above the low byte, and xor is associative.
+use Rattle.std.specs.Prelude.{if◌then◌else◌}
 use mathlib.Core.Path.{◌≡◌, refl, sym, ap, ◌∙◌}
 use mathlib.Core.Bool.{Bool, true, false}
 use mathlib.Core.List.{List, [], ◌∷◌}
@@ -13,7 +14,7 @@ use lib.ListN.{length, get_or, drop, drop_of_length-le}
 use lib.Seq.{drop-cons}
 use lib.Bits.{bit_xor, xor_shr, xor_mod, xor_lt, xor_comm, xor_zero_r, xor_shifted, shifted_half, shifted_even}
 use borrow.Author.Tests.{ltb-true}
-use Rattle.rules.specs.Notation.{if◌then◌else◌, times}
+use Rattle.rules.specs.Notation.{times}
 use Rattle.rules.specs.Checksum.{crc, step8, crc8, step32, crc32}
 use Rattle.rules.proofs.Basics.Xor.{xor_assoc}
 
@@ -24,11 +25,11 @@ abbrev pub check_bytes : List ℕ
 check_bytes = 49 ∷ 50 ∷ 51 ∷ 52 ∷ 53 ∷ 54 ∷ 55 ∷ 56 ∷ 57 ∷ []
 
 pub crc8-check : crc8 check_bytes ≡ 0xF4
-unfolding crc8 crc step8 times if◌then◌else◌
+unfolding crc8 crc step8 times
 crc8-check = refl
 
 pub crc32-check : crc32 check_bytes ≡ 0xCBF43926
-unfolding crc32 crc step32 times if◌then◌else◌
+unfolding crc32 crc step32 times
 crc32-check = refl
 
 -- ---- a byte as one lookup
@@ -36,7 +37,6 @@ crc32-check = refl
 -- a choice whether to xor p in may be made before or after a is xored in
 choice-pass : (t : Bool) (a x p : ℕ)
     → (if t then bit_xor a x else bit_xor (bit_xor a x) p) ≡ bit_xor a (if t then x else bit_xor x p)
-unfolding if◌then◌else◌
 choice-pass true a x p = refl
 choice-pass false a x p = xor_assoc a x p
 
@@ -93,7 +93,6 @@ crc-below k wide step keeps (b ∷ bytes) bs c h =
     (times_below (2 ^ k) step keeps 8 (bit_xor c b) (xor_lt k c b h (lt_of_lt_of_le (bs 0) (pow_mono wide))))
 
 if-below : (t : Bool) (m : ℕ) {x y : ℕ} → (t ≡ true → x < m) → (t ≡ false → y < m) → (if t then x else y) < m
-unfolding if◌then◌else◌
 if-below true m p q = p refl
 if-below false m p q = q refl
 

@@ -1,4 +1,5 @@
 -- Laws of the looks: what each finds, in the paper's words, and that nothing is two things.
+use Rattle.std.specs.Prelude.{if◌then◌else◌}
 use mathlib.Core.Path.{◌≡◌, refl, sym, ap, subst, ◌∙◌}
 use mathlib.Core.Bool.{Bool, true, false, not, ◌&&◌, false≢true}
 use mathlib.Core.List.{List}
@@ -9,15 +10,15 @@ use native.Mathlib.Omega.{arith}
 use lib.Dec.{eqb, leb}
 use lib.ListN.{take, drop}
 use borrow.Author.Tests.{eq-eqb, ne_eqb, le-leb, lt-leb, eqb-true, eqb-false, leb-true, leb-false, not-false}
-use Rattle.rules.specs.Notation.{if◌then◌else◌, number_of, erased, is_erased}
+use Rattle.rules.specs.Notation.{number_of, erased, is_erased}
 use Rattle.rules.specs.Ground.{Block, block_size, reserved_id, blank_block}
 use Rattle.rules.specs.Entry.{cycle_of, length_of, id_of, body_of, offset_of, crc32_of, lead_length, lead_mark}
 use Rattle.rules.specs.Look.{is_checked, is_lead, lead_cycle, is_close, Head, done, deletion, value, data_blocks, Scan, Verdict, entry, blank, other_cycle, wrong_check, wrong_form, over_limit, form_of, head_of, is_within, is_entry, judge, look}
-use Rattle.rules.proofs.Basics.Notation.{if-true, if-false, took-else, took-then, if-cases, when-some, when_true, when_false, both_true, refuted, erased-is}
+use Rattle.rules.proofs.Basics.Notation.{took-else, took-then, if-cases, when-some, when_true, when_false, both_true, refuted, erased-is}
 
 -- A value has at most as many data blocks as bytes.
 pub data-blocks-le : (len : ℕ) → data_blocks len ≤ len
-unfolding data_blocks if◌then◌else◌
+unfolding data_blocks
 data-blocks-le len = go (leb len 8) refl
   where
     go : (t : Bool) → leb len 8 ≡ t → (if t then 0 else (len + 15) / block_size) ≤ len
@@ -27,7 +28,7 @@ data-blocks-le len = go (leb len 8) refl
 -- the two cases of their number
 pub need-blocks : (len : ℕ) → (8 < len → data_blocks len ≡ (len + 15) / block_size) × (len ≤ 8 → data_blocks len ≡ 0)
 unfolding data_blocks
-need-blocks len = (λ h. simp (lt-leb len 8 h, if-false), λ h. simp (le-leb len 8 h, if-true))
+need-blocks len = (λ h. simp (lt-leb len 8 h), λ h. simp (le-leb len 8 h))
 
 -- The kinds of the paper's list, by their fields.
 pub data Kind (data_end id len : ℕ) (body : List ℕ) : Head → Type 0 where
@@ -68,10 +69,10 @@ form-kind data_end id len body {head} e =
 -- and there it is given
 pub kind-form : (data_end id len : ℕ) (body : List ℕ) {head : Head} → Kind data_end id len body head → form_of data_end id len body ≡ some head
 unfolding form_of
-kind-form data_end id len body (is-done reserved empty padded) = simp (eq-eqb id reserved_id reserved, eq-eqb len 0 empty, padded, if-true, when_true)
-kind-form data_end id len body (is-deletion other empty padded) = simp (ne_eqb id reserved_id other, eq-eqb len 0 empty, padded, if-true, if-false, when_true)
-kind-form data_end id len body (is-small-value other one few padded) = simp (ne_eqb id reserved_id other, ne_eqb len 0 (omega arith), le-leb len 8 few, padded, if-true, if-false, when_true)
-kind-form data_end id len body (is-long-value other many placed) = simp (ne_eqb id reserved_id other, ne_eqb len 0 (omega arith), lt-leb len 8 many, eq-eqb (number_of (take 4 body)) (data_end * block_size) placed, if-false, when_true)
+kind-form data_end id len body (is-done reserved empty padded) = simp (eq-eqb id reserved_id reserved, eq-eqb len 0 empty, padded, when_true)
+kind-form data_end id len body (is-deletion other empty padded) = simp (ne_eqb id reserved_id other, eq-eqb len 0 empty, padded, when_true)
+kind-form data_end id len body (is-small-value other one few padded) = simp (ne_eqb id reserved_id other, ne_eqb len 0 (omega arith), le-leb len 8 few, padded, when_true)
+kind-form data_end id len body (is-long-value other many placed) = simp (ne_eqb id reserved_id other, ne_eqb len 0 (omega arith), lt-leb len 8 many, eq-eqb (number_of (take 4 body)) (data_end * block_size) placed, when_true)
 
 -- A look that finds an entry found each thing that the rules ask.
 pub record Counts (B cycle : ℕ) (scan : Scan) (block : Block) (head : Head) : Type 0 where
@@ -104,11 +105,11 @@ judge-none B scan = refl
 
 pub judge-within : (B : ℕ) (scan : Scan) (head : Head) → is_within B scan head ≡ true → judge B scan (some head) ≡ entry head
 unfolding judge
-judge-within B scan head e = simp (e, if-true)
+judge-within B scan head e = simp e
 
 pub judge-over : (B : ℕ) (scan : Scan) (head : Head) → is_within B scan head ≡ false → judge B scan (some head) ≡ over_limit
 unfolding judge
-judge-over B scan head e = simp (e, if-false)
+judge-over B scan head e = simp e
 
 pub look-entry : (B cycle : ℕ) (scan : Scan) (block : Block) {head : Head} → look B cycle scan block ≡ entry head → Counts B cycle scan block head
 unfolding look is_entry
@@ -184,7 +185,7 @@ no_lead block never = simp (refuted (is_lead block) (λ e. never (lead-fields bl
 -- Bench sheet, row 7: a blank block is no entry, lead or close, under any cycle and after any reading.
 pub blank-no-entry : (B cycle : ℕ) (scan : Scan) → look B cycle scan blank_block ≡ blank
 unfolding look blank_block
-blank-no-entry B cycle scan = simp (erased-is, if-true)
+blank-no-entry B cycle scan = simp erased-is
 
 pub blank-no-lead : is_lead blank_block ≡ false
 unfolding blank_block erased offset_of number_of
@@ -218,7 +219,7 @@ unfolding head_of form_of
 lead-no-head data_end block e =
     let f : Leads block = lead-fields block e in
     let not-empty : length_of block ≡ 0 → ⊥ = λ z. omega (arith, f.long) in
-    simp (eq-eqb (id_of block) reserved_id f.reserved, ne_eqb (length_of block) 0 not-empty, if-true, when_false)
+    simp (eq-eqb (id_of block) reserved_id f.reserved, ne_eqb (length_of block) 0 not-empty, when_false)
 
 pub lead-no-close : (cycle : ℕ) (block : Block) → is_lead block ≡ true → is_close cycle block ≡ false
 lead-no-close cycle block e =

@@ -11,7 +11,7 @@ use Rattle.rules.specs.Look.{Head, done, deletion, value}
 use Rattle.rules.specs.Reading.{Entry}
 use Rattle.rules.specs.Meaning.{is_named, is_value, changes_of, newest_value, lookup}
 use Rattle.rules.specs.Stores.{done_entry}
-use Rattle.rules.proofs.Basics.Notation.{both_false, if-true, if-false, when_true, when-some, refuted}
+use Rattle.rules.proofs.Basics.Notation.{both_false, when_true, when-some, refuted}
 use Rattle.rules.proofs.Basics.Notation.{by-test}
 use Rattle.rules.proofs.Basics.Places.{any_append}
 
@@ -19,7 +19,7 @@ module _ {ℓ} {A : Type ℓ} (test : A → Bool) where
   pub select-append : (xs ys : List A) → select test (xs ++ ys) ≡ select test xs ++ select test ys
   unfolding select
   select-append [] ys = refl
-  select-append (x ∷ xs) ys = by-test (test x) (λ t. simp (t, if-true, select-append xs ys)) (λ f. simp (f, if-false, select-append xs ys))
+  select-append (x ∷ xs) ys = by-test (test x) (λ t. simp (t, select-append xs ys)) (λ f. simp (f, select-append xs ys))
 
 -- does one of these entries name the ID?
 abbrev pub are_named : (id : ℕ) → List Entry → Bool
@@ -54,11 +54,11 @@ module _ (id : ℕ) where
 
   pub changes-named : (e : Entry) → is_named id e.head ≡ true → changes_of id (e ∷ []) ≡ e ∷ []
   unfolding changes_of select
-  changes-named e n = simp (n, if-true)
+  changes-named e n = simp n
 
   pub changes-other : (e : Entry) → is_named id e.head ≡ false → changes_of id (e ∷ []) ≡ []
   unfolding changes_of select
-  changes-other e n = simp (n, if-false)
+  changes-other e n = simp n
 
   pub changes-cons : (e : Entry) (es : List Entry) → changes_of id (e ∷ es) ≡ changes_of id es ++ changes_of id (e ∷ [])
   changes-cons e es = changes-append (e ∷ []) es

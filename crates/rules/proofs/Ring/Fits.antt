@@ -12,7 +12,7 @@ use Rattle.rules.specs.Notation.{Each, empty, each}
 use Rattle.rules.specs.Reading.{Entry, View}
 use Rattle.rules.specs.Meaning.{at_rest, view_at, next, ring_sector, counting, live_each, live_in, needs_of}
 use Rattle.rules.specs.Stores.{first_fit, least_turns}
-use Rattle.rules.proofs.Basics.Notation.{if-true, if-false, by-test}
+use Rattle.rules.proofs.Basics.Notation.{by-test}
 use Rattle.rules.proofs.Ring.Order.{next-lt, length-all_but}
 use Rattle.rules.proofs.Ring.LiveBySector.{length-live_each}
 use Rattle.rules.proofs.Ring.Newest.{ring-live}
@@ -29,11 +29,11 @@ module _ (need limit : ℕ) where
   module _ (t n : ℕ) (ns : List ℕ) where
     pub fit-here : n + need ≤ limit → first_fit need limit t (n ∷ ns) ≡ some t
     unfolding first_fit
-    fit-here h = simp (le-leb (n + need) limit h, if-true)
+    fit-here h = simp (le-leb (n + need) limit h)
 
     pub fit-later : limit < n + need → first_fit need limit t (n ∷ ns) ≡ first_fit need limit (suc t) ns
     unfolding first_fit
-    fit-later h = simp (lt-leb (n + need) limit h, if-false)
+    fit-later h = simp (lt-leb (n + need) limit h)
 
     fit-cases {ℓ} : {A : Type ℓ} → (n + need ≤ limit → A) → (limit < n + need → A) → A
     fit-cases here later = by-test (leb (n + need) limit) (λ h. here (leb-true _ _ h)) (λ h. later (leb-false _ _ h))

@@ -1,4 +1,5 @@
 -- Laws of the live values: what each of them is, and that they tell of an ID what their entries tell.
+use Rattle.std.specs.Prelude.{if◌then◌else◌}
 use mathlib.Core.Path.{◌≡◌, refl, sym, ap, ◌∙◌}
 use mathlib.Core.Bool.{Bool, true, false, not, ◌&&◌, false≢true, true≢false}
 use mathlib.Core.List.Memᴰ
@@ -8,11 +9,11 @@ use mathlib.Core.Option.{Option, none, some}
 use Prim.Native.Nat.{ℕ, ◌≤◌}
 use native.Mathlib.Omega.{arith}
 use borrow.Author.Tests.{eqb-true, not-true}
-use Rattle.rules.specs.Notation.{if◌then◌else◌, when, select, Each, empty, each}
+use Rattle.rules.specs.Notation.{when, select, Each, empty, each}
 use Rattle.rules.specs.Look.{Head, done, deletion, value}
 use Rattle.rules.specs.Reading.{Entry}
 use Rattle.rules.specs.Meaning.{is_named, is_value, changes_of, lookup, is_renewed, live_among, needs_of}
-use Rattle.rules.proofs.Basics.Notation.{if-true, if-false, when_true, when_false, both_true, refuted, by-test}
+use Rattle.rules.proofs.Basics.Notation.{when_true, when_false, both_true, refuted, by-test}
 use Rattle.rules.proofs.Ring.Changes.{are_named, named-left, named-right, unnamed-both, unnamed-parts, changes-empty, changes-named, changes-other, changes-cons, changes-unnamed, lookup-silent, lookup-renewed, lookup-empty, lookup-unnamed, lookup-other, lookup-named, IsValueOf, named_value, IsTold, lookup-here, lookup-further, place-lookup}
 
 -- "A value is live if it is its ID's newest entry": the test that picks it, and what the test finds.
@@ -45,11 +46,11 @@ live-empty later = refl
 module _ (e : Entry) (es later : List Entry) where
   pub live-kept : is_live e (es ++ later) ≡ true → live_among (e ∷ es) later ≡ e ∷ live_among es later
   unfolding live_among
-  live-kept t = simp (t, if-true)
+  live-kept t = simp t
 
   pub live-dropped : is_live e (es ++ later) ≡ false → live_among (e ∷ es) later ≡ live_among es later
   unfolding live_among
-  live-dropped f = simp (f, if-false)
+  live-dropped f = simp f
 
   pub live-cases : (P : List Entry → Type 0) → (is_live e (es ++ later) ≡ true → P (e ∷ live_among es later)) → (is_live e (es ++ later) ≡ false → P (live_among es later))
       → P (live_among (e ∷ es) later)
@@ -72,7 +73,7 @@ live-each P (e ∷ es) later (each p ps) =
 
 -- and they need no more than all values
 pub live-needs : (es later : List Entry) → needs_of (live_among es later) ≤ needs_of (select (λ (e : Entry). is_value e.head) es)
-unfolding live_among select needs_of if◌then◌else◌
+unfolding live_among select needs_of
 live-needs [] later = omega arith
 live-needs (e ∷ es) later = go (is_value e.head) (is_renewed e.head (es ++ later)) (live_among es later) (select (λ (x : Entry). is_value x.head) es) (live-needs es later)
   where

@@ -12,7 +12,6 @@ use borrow.Author.Tests.{lt-ltb, le-ltb}
 use Rattle.rules.specs.Notation.{Each}
 use Rattle.rules.specs.Reading.{View}
 use Rattle.rules.specs.Meaning.{no_view, view_at, all_but, entries_in, live_among, live_each, needs_of, newer_than, live_in}
-use Rattle.rules.proofs.Basics.Notation.{if-true, if-false}
 use Rattle.rules.proofs.Basics.Places.{at_each}
 use Rattle.rules.proofs.Basics.Parts.{each_at}
 use Rattle.rules.proofs.Ring.Order.{length-all_but}
@@ -61,7 +60,7 @@ module _ (u : ℕ) (views : List View) (here : u < length views) where
       let behind : List View = drop (suc u) views in
       let sized : length behind ≡ length views - suc u = length-drop (suc u) views in
       let after : suc u + suc k ≡ suc s = omega arith in
-      drop-append-le (suc k) behind (take u views) (omega arith) ∙ simp (drop-drop (suc k) (suc u) views, after, lt-ltb u s (omega arith), if-true)
+      drop-append-le (suc k) behind (take u views) (omega arith) ∙ simp (drop-drop (suc k) (suc u) views, after, lt-ltb u s (omega arith))
 
   pub newer-before : (k s : ℕ) → k ≡ length views - suc u + s → s < u → drop (suc k) (all_but u views) ≡ newer_than u s views
   unfolding newer_than all_but
@@ -69,7 +68,7 @@ module _ (u : ℕ) (views : List View) (here : u < length views) where
       let behind : List View = drop (suc u) views in
       let sized : length behind ≡ length views - suc u = length-drop (suc u) views in
       let after : suc k ≡ length behind + suc s = omega arith in
-      ap (λ (n : ℕ). drop n (behind ++ take u views)) after ∙ drop-append-add behind (take u views) (suc s) ∙ simp (le-ltb u s (omega arith), if-false)
+      ap (λ (n : ℕ). drop n (behind ++ take u views)) after ∙ drop-append-add behind (take u views) (suc s) ∙ simp (le-ltb u s (omega arith))
 
   pub live-behind : (k s : ℕ) → s ≡ suc u + k → s < length views → get_or (live_each (all_but u views)) k [] ≡ live_in u s views
   live-behind k s e h = placed k s (omega arith) (view-behind k s e h) (newer-behind k s e h)

@@ -16,7 +16,7 @@ use Rattle.rules.specs.Look.{Head, done, deletion, value}
 use Rattle.rules.specs.Reading.{Entry, View}
 use Rattle.rules.specs.Meaning.{no_view, view_at, next, previous, ring_sector, all_but, entries_in, is_named, is_value, lookup, newer_than, live_each, live_in}
 use Rattle.rules.specs.Stores.{id_in}
-use Rattle.rules.proofs.Basics.Notation.{if-true, if-false, if-cases}
+use Rattle.rules.proofs.Basics.Notation.{if-cases}
 use Rattle.rules.proofs.Ring.Order.{next-cases, length-all_but}
 use Rattle.rules.proofs.Ring.History.{entries_in-last}
 use Rattle.rules.proofs.Ring.LiveBySector.{view-behind, view-before, newer-behind, newer-before, live-behind, live-before}
@@ -47,11 +47,11 @@ module _ (id : ℕ) (older es : List Entry) (n : ℕ) (d : Entry) (here : n < le
 -- behind the spare, and from 0 on
 ring-low : (S u k : ℕ) → u + 1 + k < S → ring_sector S u k ≡ u + 1 + k
 unfolding ring_sector
-ring-low S u k h = simp (lt-ltb (u + 1 + k) S h, if-true)
+ring-low S u k h = simp (lt-ltb (u + 1 + k) S h)
 
 ring-high : (S u k : ℕ) → S ≤ u + 1 + k → ring_sector S u k ≡ u + 1 + k - S
 unfolding ring_sector
-ring-high S u k h = simp (le-ltb (u + 1 + k) S h, if-false)
+ring-high S u k h = simp (le-ltb (u + 1 + k) S h)
 
 ring-cases : (S u k : ℕ) → ((u + 1 + k < S) × (ring_sector S u k ≡ u + 1 + k)) ⊎ ((S ≤ u + 1 + k) × (ring_sector S u k ≡ u + 1 + k - S))
 ring-cases S u k =

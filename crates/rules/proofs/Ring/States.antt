@@ -10,7 +10,7 @@ use borrow.Author.Tests.{eq-eqb, eqb-true, not-true}
 use Rattle.rules.specs.Notation.{all, places_from, is_empty}
 use Rattle.rules.specs.Reading.{Entry, View}
 use Rattle.rules.specs.Meaning.{State, at_rest, not_reopened, mid_turn, has_done, is_working, is_unfinished, next, no_view, view_at, state_by, state_of, IsRest, IsNotReopened, IsMidTurn, Is}
-use Rattle.rules.proofs.Basics.Notation.{if-true, took-then, when_true, when-some, both_true}
+use Rattle.rules.proofs.Basics.Notation.{took-then, when_true, when-some, both_true}
 use Rattle.rules.proofs.Basics.Places.{Nowhere, Only, all-each, each_all, no-places, nowhere-places, one_place, only-place, here-or}
 use Rattle.rules.proofs.Ring.Order.{next-lt}
 
@@ -117,7 +117,7 @@ module _ (views : List View) where
   answered : AllLed views → {state : State} (ws us : List ℕ) → places_from 0 is_working views ≡ ws → places_from 0 is_unfinished views ≡ us
       → state_by views ws us ≡ some state → state_of views ≡ some state
   unfolding state_of view_at
-  answered led ws us pw pu e = simp (each_all (λ (v : View). v.led) no_view views led, if-true, pw, pu, e)
+  answered led ws us pw pu e = simp (each_all (λ (v : View). v.led) no_view views led, pw, pu, e)
 
   pub is_state : (state : State) → Is views state → state_of views ≡ some state
   unfolding Is state_by view_at is_empty

@@ -2,12 +2,13 @@
 -- block left after every entry, so a block that is none ends the loop. That the table is right is one test over its 256 entries,
 -- which antt computes.
 -- Assumes nothing.
+use Rattle.std.specs.Prelude.{if◌then◌else◌}
 use mathlib.Core.Path.{◌≡◌, refl, sym, ap, ◌∙◌}
 use mathlib.Core.List.{[]}
 use Prim.Native.Nat.{ℕ}
 use native.Mathlib.Omega.{arith}
 use lib.ListN.{get_or}
-use Rattle.rules.specs.Notation.{if◌then◌else◌, times}
+use Rattle.rules.specs.Notation.{times}
 use Rattle.rules.specs.Ground.{sector_of}
 use Rattle.rules.specs.Checksum.{step8}
 use Rattle.rules.specs.Look as rule
@@ -57,7 +58,7 @@ block_bytes-bytes-requires c = let same : c.new.result.0 ≡ c.loop-next.at = ap
     omega (arith, stand-below c.loop-next.invariant.0)
 
 pub block_by-verdict-requires : goal.block_by-verdict-requires
-unfolding is_right times step8 if◌then◌else◌
+unfolding is_right times step8
 block_by-verdict-requires c =
     record { table = right step8 _ tt refl; block_len = (block-there (goal.at.block_by-verdict-requires c).After-block_bytes-bytes).size; sound = c.requires.sound; small = (stand-bounded c.requires.sound.blocks_to c.loop-next.invariant.0).small }
 

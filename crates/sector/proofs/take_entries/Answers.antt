@@ -7,7 +7,7 @@ use mathlib.Core.List.{[]}
 use Prim.Native.Nat.{ℕ}
 use native.Mathlib.Omega.{arith}
 use lib.ListN.{get_or}
-use Rattle.rules.specs.Notation.{if◌then◌else◌, times}
+use Rattle.rules.specs.Notation.{times}
 use Rattle.rules.specs.Ground.{sector_of}
 use Rattle.rules.specs.Checksum.{step8}
 use Rattle.rules.specs.Look as rule
@@ -56,7 +56,7 @@ block_bytes-bytes-requires c = let same : c.new.result.0 ≡ c.loop-next.at = ap
     omega (arith, stand-below c.loop-next.invariant)
 
 pub block_by-verdict-requires : goal.block_by-verdict-requires
-unfolding is_right times step8 if◌then◌else◌
+unfolding is_right times step8
 block_by-verdict-requires c =
     record { table = right step8 _ tt refl; block_len = (block-there (goal.at.block_by-verdict-requires c).After-block_bytes-bytes).size; sound = c.requires.sound; small = (stand-bounded c.requires.sound.blocks_to c.loop-next.invariant).small }
 

@@ -10,7 +10,6 @@ use Rattle.rules.specs.Notation.{is_erased}
 use Rattle.rules.specs.Entry.{cycle_of}
 use Rattle.rules.specs.Look.{is_checked, judge, look}
 use Rattle.rules.specs.Look as rule
-use Rattle.rules.proofs.Basics.Notation.{if-true, if-false}
 use Rattle.rules.proofs.Format.Look.{judge-none, judge-within, judge-over}
 use Rattle.layout.specs.Geometry.{blocks_of}
 use Rattle.entry.specs.declared.Head.{Head}
@@ -36,7 +35,7 @@ judged c =
     let bytes : is_erased block ≡ false =
     sym c.is_erased.ensures ∙ c.if-is_erased.false in
     let check : is_checked block ≡ true = sym c.is_checked_by.ensures ∙ c.if-not-is_checked_by.false in
-    simp (bytes, eq-eqb _ _ c.if-block-cycle.false, check, if-false)
+    simp (bytes, eq-eqb _ _ c.if-block-cycle.false, check)
 
 -- and with a right form by its head
 found : (c : In-Right)
@@ -52,13 +51,13 @@ short c = rw c.in-Right.is at c.head_of.ensures.length_fits
 pub returns-then-is_erased : goal.returns-then-is_erased
 unfolding look
 returns-then-is_erased c = let bytes : is_erased c.args.block.now ≡ true = sym c.is_erased.ensures ∙ c.if-is_erased.true in
-    simp (bytes, if-true)
+    simp bytes
 
 pub returns-then-block-cycle : goal.returns-then-block-cycle
 unfolding look cycle_of
 returns-then-block-cycle c = let block : List ℕ = c.args.block.now in
     let bytes : is_erased block ≡ false = sym c.is_erased.ensures ∙ c.if-is_erased.false in
-    simp (bytes, ne_eqb _ _ c.if-block-cycle.true, if-true, if-false)
+    simp (bytes, ne_eqb _ _ c.if-block-cycle.true)
 
 pub returns-then-not-is_checked_by : goal.returns-then-not-is_checked_by
 unfolding look cycle_of
@@ -66,7 +65,7 @@ returns-then-not-is_checked_by c = let block : List ℕ = c.args.block.now in
     let bytes : is_erased block ≡ false =
     sym c.is_erased.ensures ∙ c.if-is_erased.false in
     let check : is_checked block ≡ false = sym c.is_checked_by.ensures ∙ c.if-not-is_checked_by.true in
-    simp (bytes, eq-eqb _ _ c.if-block-cycle.false, check, if-true, if-false)
+    simp (bytes, eq-eqb _ _ c.if-block-cycle.false, check)
 
 pub returns-in_default : goal.returns-in_default
 returns-in_default c =

@@ -12,7 +12,7 @@ use Rattle.rules.specs.Notation.{is_erased}
 use Rattle.rules.specs.Ground.{Block}
 use Rattle.rules.specs.Entry.{id_of, length_of, body_of}
 use Rattle.rules.specs.Look.{Head, form_of, head_of}
-use Rattle.rules.proofs.Basics.Notation.{if-true, if-false, when_false}
+use Rattle.rules.proofs.Basics.Notation.{when_false}
 use Rattle.rules.proofs.Format.Look.{is-done, is-deletion, is-small-value, is-long-value, kind-form}
 use Rattle.entry.specs.Answer.{form_as}
 use Rattle.entry.proofs.Laws.{erased-rest}
@@ -48,12 +48,12 @@ pub returns-else-is_erased : goal.returns-else-is_erased
 unfolding body_of form_of
 returns-else-is_erased c =
     let filled = erased-rest 8 (block (goal.at.returns-else-is_erased c).After-le16-length) c.is_erased.ensures c.if-is_erased.false in
-    record { form = by-fields (goal.at.returns-else-is_erased c).After-le16-length {head = none} (simp (eq-eqb _ _ c.if-id.true, eq-eqb _ _ c.if-length-eq0.true, filled, if-true, when_false)); length_fits = omega arith }
+    record { form = by-fields (goal.at.returns-else-is_erased c).After-le16-length {head = none} (simp (eq-eqb _ _ c.if-id.true, eq-eqb _ _ c.if-length-eq0.true, filled, when_false)); length_fits = omega arith }
 
 pub returns-else-length-eq0 : goal.returns-else-length-eq0
 unfolding form_of
 returns-else-length-eq0 c =
-    record { form = by-fields (goal.at.returns-else-length-eq0 c).After-le16-length {head = none} (simp (eq-eqb _ _ c.if-id.true, ne_eqb _ _ c.if-length-eq0.false, if-true, when_false)); length_fits = omega arith }
+    record { form = by-fields (goal.at.returns-else-length-eq0 c).After-le16-length {head = none} (simp (eq-eqb _ _ c.if-id.true, ne_eqb _ _ c.if-length-eq0.false, when_false)); length_fits = omega arith }
 
 pub returns-then-is_erased-2 : goal.returns-then-is_erased-2
 unfolding body_of
@@ -65,7 +65,7 @@ pub returns-then-length-eq0-2 : goal.returns-then-length-eq0-2
 unfolding body_of form_of
 returns-then-length-eq0-2 c =
     let filled = erased-rest 8 (block (goal.at.returns-then-length-eq0-2 c).After-le16-length) c.is_erased-then-length-eq0-2.ensures c.if-is_erased-2.false in
-    record { form = by-fields (goal.at.returns-then-length-eq0-2 c).After-le16-length {head = none} (simp (ne_eqb _ _ c.if-id.false, eq-eqb _ _ c.if-length-eq0-2.true, filled, if-true, if-false, when_false)); length_fits = omega arith }
+    record { form = by-fields (goal.at.returns-then-length-eq0-2 c).After-le16-length {head = none} (simp (ne_eqb _ _ c.if-id.false, eq-eqb _ _ c.if-length-eq0-2.true, filled, when_false)); length_fits = omega arith }
 
 pub returns-then-is_erased-3 : goal.returns-then-is_erased-3
 returns-then-is_erased-3 c =
@@ -77,7 +77,7 @@ unfolding form_of
 returns-then-length-le-SMALL c =
     let filled = behind (goal.at.returns-then-length-le-SMALL c).After-is_erased-then-length-le-SMALL c.if-is_erased-3.false in
     let other = ne_eqb _ _ c.if-id.false in
-    record { form = by-fields (goal.at.returns-then-length-le-SMALL c).After-le16-length {head = none} (simp (other, ne_eqb _ _ c.if-length-eq0-2.false, le-leb _ _ c.if-length-le-SMALL.true, filled, if-true, if-false, when_false)); length_fits = omega arith }
+    record { form = by-fields (goal.at.returns-then-length-le-SMALL c).After-le16-length {head = none} (simp (other, ne_eqb _ _ c.if-length-eq0-2.false, le-leb _ _ c.if-length-le-SMALL.true, filled, when_false)); length_fits = omega arith }
 
 pub returns-then-offset-data_end : goal.returns-then-offset-data_end
 unfolding body_of
@@ -90,4 +90,4 @@ unfolding body_of form_of
 returns c =
     let other = ne_eqb _ _ c.if-id.false in
     let elsewhere = ne_eqb _ _ (λ e. c.if-offset-data_end.false (c.le32-offset.ensures ∙ e)) in
-    record { form = by-fields (goal.at.returns c).After-le16-length {head = none} (simp (other, ne_eqb _ _ c.if-length-eq0-2.false, lt-leb _ _ c.if-length-le-SMALL.false, elsewhere, if-false, when_false)); length_fits = omega arith }
+    record { form = by-fields (goal.at.returns c).After-le16-length {head = none} (simp (other, ne_eqb _ _ c.if-length-eq0-2.false, lt-leb _ _ c.if-length-le-SMALL.false, elsewhere, when_false)); length_fits = omega arith }
