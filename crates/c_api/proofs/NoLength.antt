@@ -3,14 +3,17 @@
 use mathlib.Core.Path.{◌≡◌, refl}
 use mathlib.Core.List.{List}
 use mathlib.Core.Option.{Option, none, some}
-use Prim.Native.Nat.{ℕ, ◌-◌}
-use Rattle.rules.specs.Ground.{Image, kept_from_deletions}
+use Prim.Native.Nat.{ℕ, ◌-◌, ◌/◌}
+use lib.Dec.{eqb, leb, ltb}
+use lib.ListN.{length}
+use Rattle.rules.specs.Notation.{is_empty}
+use Rattle.rules.specs.Ground.{Image, block_size, kept_from_values, kept_from_deletions, reserved_id, legal_sizes, image_of}
 use Rattle.rules.specs.Look.{need_of}
 use Rattle.rules.specs.Reading.{Entry}
 use Rattle.rules.specs.Meaning.{State, at_rest, not_reopened, mid_turn, views_of, state_of, history, lookup}
-use Rattle.rules.specs.Stores.{Store, least_turns, change, deletion_entry}
+use Rattle.rules.specs.Stores.{Store, least_turns, change, value_entry, deletion_entry}
 use Rattle.rules.specs.Calls.{Refusal, geometry, no_store, unfinished, reserved, empty, too_long, no_room, absent, length_told, Due, refuse, make, Answer, answer, answer_numbers, in_state, in_rest, at_sizes, format_on, mount_on, change_on, write_on, delete_on, format_due, mount_due, write_due, delete_due}
-use Rattle.rules.proofs.Basics.Notation.{if-either}
+use Rattle.rules.proofs.Basics.Notation.{by-test}
 
 -- what is due tells no length, whatever the allowance
 abbrev pub NoLength : Due → Type 0
@@ -22,7 +25,7 @@ refused r none_told allowance = none_told
 
 made : (stores : List Store) (turns : ℕ) → NoLength (make stores turns)
 unfolding answer answer_numbers
-made stores turns allowance = if-either (λ (a : Answer). (answer_numbers a).length ≡ 0) _ (λ _. refl) (λ _. refl)
+made stores turns allowance = by-test (leb (length stores) allowance) (λ enough. rw enough refl) (λ short. rw short refl)
 
 in-state : (state : Option State) (call : State → Due) → ((s : State) → NoLength (call s)) → NoLength (in_state state refuse call)
 unfolding in_state length_told
@@ -39,7 +42,10 @@ in_rest_lem (some (mid_turn u)) call told = refused unfinished refl
 at-sizes : (size count : ℕ) (bytes : List ℕ) (call : (B S : ℕ) → Image → Due) → ((B S : ℕ) (im : Image) → NoLength (call B S im))
     → NoLength (at_sizes size count bytes refuse call)
 unfolding at_sizes length_told
-at-sizes size count bytes call told = if-either NoLength _ (λ _. told _ _ _) (λ _. refused geometry refl)
+at-sizes size count bytes call told =
+    by-test (legal_sizes size count (length bytes))
+    (λ legal. rw legal (told (size / block_size) count (image_of (size / block_size) count bytes)))
+    (λ illegal. rw illegal (refused geometry refl))
 
 change-on : (B S w limit : ℕ) (e : Entry) (im : Image) → NoLength (change_on B S w limit e im)
 unfolding change_on length_told
@@ -62,18 +68,20 @@ unfolding write_due write_on length_told
 write-tells size count bytes id value =
     at-sizes size count bytes _
     (λ B S im.
-    if-either NoLength _ (λ _. refused reserved refl)
-    (λ _.
-    if-either NoLength _ (λ _. refused empty refl)
-    (λ _. if-either NoLength _ (λ _. refused too_long refl) (λ _. in_rest_lem (state_of (views_of B im)) _ (λ w. change-on B S w _ _ im)))))
+    by-test (eqb id reserved_id) (λ e. rw e (refused reserved refl))
+    (λ user.
+    by-test (is_empty value) (λ e. rw (user, e) (refused empty refl))
+    (λ filled.
+    by-test (ltb (B - kept_from_values) (need_of (value_entry id value).head)) (λ e. rw (user, filled, e) (refused too_long refl))
+    (λ fits. rw (user, filled, fits) (in_rest_lem (state_of (views_of B im)) _ (λ w. change-on B S w _ _ im))))))
 
 pub delete-tells : (size count : ℕ) (bytes : List ℕ) (id : ℕ) → NoLength (delete_due size count bytes id)
 unfolding delete_due delete_on length_told
 delete-tells size count bytes id =
     at-sizes size count bytes _
     (λ B S im.
-    if-either NoLength _ (λ _. refused reserved refl)
-    (λ _. in_rest_lem (state_of (views_of B im)) _ (λ w. by-lookup B S w im (lookup id (history (at_rest w) (views_of B im))))))
+    by-test (eqb id reserved_id) (λ e. rw e (refused reserved refl))
+    (λ user. rw user (in_rest_lem (state_of (views_of B im)) _ (λ w. by-lookup B S w im (lookup id (history (at_rest w) (views_of B im)))))))
   where
     by-lookup : (B S w : ℕ) (im : Image) (found : Option Entry)
         → NoLength (elim found [ none ↦ refuse absent | some e ↦ change_on B S w (B - kept_from_deletions) (deletion_entry id) im ])
