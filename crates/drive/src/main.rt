@@ -515,7 +515,8 @@ fn perform(
     }
 }
 
-// One line; answers whether to go on. What a call stored is in the file also where its answer cannot be printed.
+// One line; answers whether to go on. What a call stored is in the file also where its answer cannot be printed: the image tells then
+// whether it stored.
 fn step<R: Files + Print>(
     rt: &R,
     path: &[u8],
@@ -526,10 +527,12 @@ fn step<R: Files + Print>(
 ) -> io::Result<bool> {
     let mut value = value_buffer();
     let asked = task_of(line, &mut value);
+    let mut space = blank_image();
+    let kept = part::copied(image, &mut space);
     let performed = perform(rt, image, size, count, asked, &value);
     let is_due = match performed {
         Ok(is_stored) => is_stored,
-        Err(_) => matches!(asked, Task::Store(_, _, _)),
+        Err(_) => image[..] != space[..kept],
     };
     let is_saved = !is_due || save(rt, path, image).is_ok();
     performed?;
