@@ -16,13 +16,10 @@ use Rattle.rules.proofs.Basics.Notation.{by-test}
 use Rattle.rules.proofs.Due.Calls.{answer-whole, answer-cut, made-make}
 use Rattle.rules.proofs.Crash.ReadBack.{none_allowed}
 use Rattle.rules.proofs.Crash.Pinned.{number-leaves, number-buffer, format-few, call-few}
-use Rattle.budget.specs.declared.Last.TheVariants as last
-use Rattle.budget.specs.Budget.{last_of}
-use Rattle.answer.specs.declared.Outcome.{Outcome}
 use Rattle.answer.specs.Answer.{Leaves, reply_numbers_of}
-use Rattle.acceptance.specs.Runs.{Address}
+use Rattle.acceptance.specs.Runs.{Made, Address}
 use Rattle.acceptance.specs.Demands.{told, Storing, IsCut, Pinned, PinnedRead, Demand1}
-use Rattle.acceptance.proofs.Numbers.{refusal-most, same_answer, same-reply, some-answer, some-reply}
+use Rattle.acceptance.proofs.Numbers.{refusal-most, same-made, same-reply, some-made, some-reply}
 use Rattle.acceptance.proofs.Steps.{same_number}
 
 -- an answer 11 is a cut, and the other way round
@@ -42,20 +39,18 @@ cut-leaves : (size : ℕ) {what : Due} (a : ℕ) (before : List ℕ) (c : IsCut 
 unfolding rule.leaves
 cut-leaves size a before c = ap (λ (d : Due). apply_bytes (size / block_size) (rule.made d a) before) c.due ∙ ap (λ (ss : List Store). apply_bytes (size / block_size) ss before) (made-make c.stores c.turns a)
 
--- the outcome that a contract asks for
-leaves-some : (size : ℕ) (what : Due) (a : ℕ) (before : List ℕ) → (r : Outcome) × Leaves size what a before (rule.leaves size what a before) r
+-- the answer that a contract asks for
+leaves-some : (size : ℕ) (what : Due) (a : ℕ) (before : List ℕ) → (r : Made) × Leaves size what a before (rule.leaves size what a before) r
 leaves-some size what a before =
-    let (x, e) = some-answer (rule.answer what a) in
-    (record { answer = x; last = last_of last.Nothing (rule.made what a) }, record { numbers = e; image = refl; last = refl })
+    let (r, e, last) = some-made what a in
+    (r, record { numbers = e; image = refl; last = last })
 
 module _ {size : ℕ} {due : List ℕ → Due} {run : Storing}
-    (met : (before : List ℕ) (a : ℕ) (after : List ℕ) (r : Outcome) → run before a after r → Leaves size (due before) a before after r)
-    (meets : (before : List ℕ) (a : ℕ) (after : List ℕ) (r : Outcome) → Leaves size (due before) a before after r → run before a after r) where
-  alike : (before : List ℕ) (a : ℕ) (after after' : List ℕ) (r r' : Outcome) → Leaves size (due before) a before after r → Leaves size (due before) a before after' r' → (r ≡ r') × (after ≡ after')
+    (met : (before : List ℕ) (a : ℕ) (after : List ℕ) (r : Made) → run before a after r → Leaves size (due before) a before after r)
+    (meets : (before : List ℕ) (a : ℕ) (after : List ℕ) (r : Made) → Leaves size (due before) a before after r → run before a after r) where
+  alike : (before : List ℕ) (a : ℕ) (after after' : List ℕ) (r r' : Made) → Leaves size (due before) a before after r → Leaves size (due before) a before after' r' → (r ≡ r') × (after ≡ after')
   alike before a after after' r r' x y =
-      let p = same_answer r.answer r'.answer (x.numbers ∙ sym y.numbers) in
-      let q = x.last ∙ sym y.last in
-      ((λ i. record { answer = p i; last = q i }), x.image ∙ sym y.image)
+      (same-made r r' (x.numbers ∙ sym y.numbers) (x.last ∙ sym y.last), x.image ∙ sym y.image)
 
   pinned : Pinned size due run
   unfolding gives rule.leaves
@@ -74,7 +69,7 @@ module _ {size : ℕ} {due : List ℕ → Due} {run : Storing}
       }
 
 -- a run changes few blocks, as the rules say
-runs-few : (size count : ℕ) (call : Call) → Typed call → {a : ℕ} {before after : List ℕ} {r : Outcome} → Leaves size (due size count before call) a before after r → AreBytes before → FewDiffer a before after
+runs-few : (size count : ℕ) (call : Call) → Typed call → {a : ℕ} {before after : List ℕ} {r : Made} → Leaves size (due size count before call) a before after r → AreBytes before → FewDiffer a before after
 runs-few size count call typed {a} {before} l bytes = subst (FewDiffer a before) (sym l.image) (call-few size count before call a bytes typed)
 
 -- any address will do

@@ -16,13 +16,13 @@ use Rattle.rules.proofs.Crash.Landed.{rest-whole, rest-told}
 use Rattle.rules.proofs.Crash.Reads.{settled-read}
 use Rattle.rules.proofs.Crash.ReadBack.{read_back, delete-back}
 use Rattle.rules.proofs.Crash.MountShows.{no_store_lem, mount-shows}
-use Rattle.answer.specs.declared.Outcome.{Outcome}
 use Rattle.answer.specs.Answer.{Leaves}
+use Rattle.acceptance.specs.Runs.{Made}
 use Rattle.acceptance.specs.Demands.{Storing, Obeys, ReadsBack, OneMeaning, Demand2}
 use Rattle.acceptance.proofs.Numbers.{same-reply}
 use Rattle.acceptance.proofs.Steps.{same_number, reads_as, shown}
 
-obeys : {size : ℕ} {due : List ℕ → Due} {run : Storing} → ((before : List ℕ) (a : ℕ) (after : List ℕ) (r : Outcome) → run before a after r → Leaves size (due before) a before after r)
+obeys : {size : ℕ} {due : List ℕ → Due} {run : Storing} → ((before : List ℕ) (a : ℕ) (after : List ℕ) (r : Made) → run before a after r → Leaves size (due before) a before after r)
     → Obeys size due run
 obeys met = record { answers = λ x. (met _ _ _ _ x).numbers; leaves = λ x. (met _ _ _ _ x).image; traces = λ x. (met _ _ _ _ x).last }
 

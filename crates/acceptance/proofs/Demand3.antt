@@ -12,8 +12,7 @@ use Rattle.rules.specs.Demands as rules
 use Rattle.rules.specs.Demands.{Call, Typed, AreBytes, Model, empty_model, model_after, due, budget}
 use Rattle.rules.proofs.Crash.Fresh.{format-succeeds}
 use Rattle.rules.proofs.Crash.Safe.{Safe, safe-format, safe-store, safe-mounts}
-use Rattle.answer.specs.declared.Outcome.{Outcome}
-use Rattle.acceptance.specs.Runs.{Formats}
+use Rattle.acceptance.specs.Runs.{Made, Formats}
 use Rattle.acceptance.specs.Demands.{told, Fresh, formatted, Runs, mounted, written, deleted, Ran, ended, called, Completes, Serves, Holds, Demand3, Histories}
 use Rattle.acceptance.proofs.Numbers.{no_room_lem}
 use Rattle.acceptance.proofs.Demand1.{demand1}
@@ -25,7 +24,7 @@ fresh-safe {size} {count} (formatted {bytes} {a} typed x zero') =
     subst (λ (l : List ℕ). Safe size count (record { image = l; model = empty_model })) (sym x.meets.image) (safe-format size count bytes a typed (sym (same_number x.meets) ∙ zero'))
 
 -- a call keeps it
-call-safe : {size count : ℕ} {call : Call} {before after : List ℕ} {r : Outcome} (book : Model) → Typed call → Runs size count call before after r
+call-safe : {size count : ℕ} {call : Call} {before after : List ℕ} {r : Made} (book : Model) → Typed call → Runs size count call before after r
     → Safe size count (record { image = before; model = book }) → Safe size count (record { image = after; model = model_after call (told r).number book })
 unfolding due budget
 call-safe {size} {count} {call} book typed (mounted x) h = kept size count call typed x.meets book h
@@ -49,7 +48,7 @@ serves at =
       reads = λ {id} user x. reads_as (at.reads id user) x;
       refuses = λ {id} {value} {a} {after} {r} fits x.
           let same = x.meets.0.numbers in
-          ((λ e. (at.refuses id value a fits).0 (sym same ∙ no_room_lem r.answer e)), (λ full. same_number x.meets.0 ∙ ap (λ (n : rule.Numbers). n.number) ((at.refuses id value a fits).1 full)));
+          ((λ e. (at.refuses id value a fits).0 (sym same ∙ no_room_lem r e)), (λ full. same_number x.meets.0 ∙ ap (λ (n : rule.Numbers). n.number) ((at.refuses id value a fits).1 full)));
       writes = λ id value fits room. completes (λ a after r x. x.meets.0.numbers) (at.writes id value fits room);
       deletes = λ id {value} user holds. completes (λ a after r x. x.meets.numbers) (at.deletes id value user holds);
     }
@@ -78,12 +77,12 @@ demand3 size count calls fresh image book typed begun ran = holds (list-safe typ
 
 module _ (size count : ℕ) where
   -- each call is answered, and in one way
-  call-answered : (call : Call) (before : List ℕ) → (after : List ℕ) × (r : Outcome) × Runs size count call before after r
+  call-answered : (call : Call) (before : List ℕ) → (after : List ℕ) × (r : Made) × Runs size count call before after r
   call-answered (rules.mount a) before = let (after, r, x) = (demand1.mounts size count).answered before a in (after, r, mounted x)
   call-answered (rules.write id value a) before = let (after, r, x) = (demand1.writes size count id value).answered before a in (after, r, written x)
   call-answered (rules.delete id a) before = let (after, r, x) = (demand1.deletes size count id).answered before a in (after, r, deleted x)
 
-  call-alike : {call : Call} {before after after' : List ℕ} {r r' : Outcome} → Runs size count call before after r → Runs size count call before after' r' → (r ≡ r') × (after ≡ after')
+  call-alike : {call : Call} {before after after' : List ℕ} {r r' : Made} → Runs size count call before after r → Runs size count call before after' r' → (r ≡ r') × (after ≡ after')
   call-alike (mounted x) (mounted y) = (demand1.mounts size count).alike x y
   call-alike (written {id} {value} x) (written y) = (demand1.writes size count id value).alike x y
   call-alike (deleted {id} x) (deleted y) = (demand1.deletes size count id).alike x y
@@ -100,7 +99,7 @@ module _ (size count : ℕ) where
   list-alike ended ended = (refl, refl)
   list-alike {book = book} {after = after} {book_after = book_after} (called {call = call} {rest = rest} x ran) (called y ran') =
       let (same, left) = call-alike x y in
-      list-alike (subst₂ (λ (l : List ℕ) (r : Outcome). Ran size count rest l (model_after call (told r).number book) after book_after) left same ran) ran'
+      list-alike (subst₂ (λ (l : List ℕ) (r : Made). Ran size count rest l (model_after call (told r).number book) after book_after) left same ran) ran'
 
 -- a format of bytes of legal sizes, with allowance enough
 format-completes : (size count : ℕ) (bytes : List ℕ) → legal_sizes size count (length bytes) ≡ true → Completes (Formats size count bytes) 0

@@ -11,14 +11,12 @@ use Rattle.rules.specs.Demands as rules
 use Rattle.rules.specs.Demands.{Call, Typed, AreBytes, Model, due, budget, step, model_after, views, ReadsAs, TurnsShow}
 use Rattle.rules.proofs.Crash.TurnsShow.{turns-show}
 use Rattle.rules.proofs.Crash.Safe.{Safe, safe-call}
-use Rattle.answer.specs.declared.Outcome.{Outcome}
-use Rattle.answer.specs.declared.Reply.{Reply}
 use Rattle.answer.specs.Answer.{Leaves, reply_numbers_of}
-use Rattle.acceptance.specs.Runs.{Reads}
+use Rattle.acceptance.specs.Runs.{Made, Reply, Reads}
 use Rattle.acceptance.specs.Demands.{told, Completes}
 
 -- the number that a run gave is the rules'
-pub same_number : {size : ℕ} {what : Due} {a : ℕ} {before after : List ℕ} {r : Outcome} → Leaves size what a before after r → (told r).number ≡ (answer_numbers (rule.answer what a)).number
+pub same_number : {size : ℕ} {what : Due} {a : ℕ} {before after : List ℕ} {r : Made} → Leaves size what a before after r → (told r).number ≡ (answer_numbers (rule.answer what a)).number
 same_number l = ap (λ (n : Numbers). n.number) l.numbers
 
 -- a read, by what the rules say that the image holds
@@ -28,8 +26,8 @@ unfolding rules.Reads
 reads_as {entry = entry} {buffer} held x = subst₂ (λ (n : Numbers) (l : List ℕ). ReadsAs buffer entry n l) (sym x.meets.0) (sym x.meets.1.0) (held buffer)
 
 -- a call that the rules do not refuse
-unfoldable pub completes : {what : Due} {most : ℕ} {run : ℕ → List ℕ → Outcome → Type 0}
-    → ((a : ℕ) (after : List ℕ) (r : Outcome) → run a after r → told r ≡ answer_numbers (rule.answer what a)) → rules.Succeeds what most → Completes run most
+unfoldable pub completes : {what : Due} {most : ℕ} {run : ℕ → List ℕ → Made → Type 0}
+    → ((a : ℕ) (after : List ℕ) (r : Made) → run a after r → told r ≡ answer_numbers (rule.answer what a)) → rules.Succeeds what most → Completes run most
 completes numbers s =
     record {
       stores = s.stores;
@@ -40,7 +38,7 @@ completes numbers s =
       short = λ {a} {after} {r} x short. numbers a after r x ∙ s.short a short;
     }
 
-module _ (size count : ℕ) (call : Call) (typed : Typed call) {before after : List ℕ} {r : Outcome} (l : Leaves size (due size count before call) (budget call) before after r) where
+module _ (size count : ℕ) (call : Call) (typed : Typed call) {before after : List ℕ} {r : Made} (l : Leaves size (due size count before call) (budget call) before after r) where
   -- the turns told show in the image
   pub shown : {w : ℕ} → AreBytes before → state_of (views size count before) ≡ some (at_rest w) → (told r).number ≡ 0
       → state_of (views size count after) ≡ some (at_rest (moved count (told r).turns w))

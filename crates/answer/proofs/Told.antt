@@ -5,7 +5,6 @@ use Rattle.rules.specs.Calls as rule
 use Rattle.answer.specs.Answer.{refusal_of, refusal_as, reply_as, reply_numbers_of}
 
 refusal-as : (r : rule.Refusal) → refusal_of (refusal_as r) ≡ r
-unfolding refusal_of refusal_as
 refusal-as rule.geometry = refl
 refusal-as rule.no_store = refl
 refusal-as rule.unfinished = refl
@@ -18,6 +17,6 @@ refusal-as rule.bad_data = refl
 refusal-as (rule.short_buffer len) = refl
 
 pub numbers_as : (r : rule.Reply) → reply_numbers_of (reply_as r) ≡ rule.reply_numbers r
-unfolding reply_numbers_of reply_as rule.reply_numbers
+unfolding rule.reply_numbers
 numbers_as (rule.found e) = refl
 numbers_as (rule.refused r) = ap (λ (x : rule.Refusal). rule.reply_numbers (rule.refused x)) (refusal-as r)

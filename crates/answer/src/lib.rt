@@ -1,14 +1,16 @@
 #![tactic(auto)]
-// What a call answers: enums in place of numbers, and one place that gives the paper's numbers for them.
+// What a call answers, and one place that gives the paper's numbers for it.
 mod numbers;
 
 ghost use Rattle.std.specs.Prelude.{◌≡◌, ◌≤◌};
-ghost use Rattle.answer.specs.Answer.{refused_as, outcome_as};
+ghost use Rattle.answer.specs.Answer.{outcome_as};
 
-use budget::{Budget, Last};
+use budget::{Budget, Cut, Store};
+pub use numbers::Numbers;
+use std::fmt;
 
 // The refusals, 1 to 10 in the order of their numbers. A short buffer tells the length that it would take.
-#[derive(Clone, Copy)]
+#[derive(Clone, Copy, Debug, PartialEq, Eq)]
 pub enum Refusal {
     Geometry,
     NoStore,
@@ -22,55 +24,67 @@ pub enum Refusal {
     ShortBuffer(usize),
 }
 
-// What a read answers: the value's length, or a refusal.
-#[derive(Clone, Copy)]
-pub enum Reply {
-    Value(usize),
-    Refused(Refusal),
+// A refusal's name, and the length that goes with it.
+impl fmt::Display for Refusal {
+    fn fmt<W: fmt::Write>(&self, f: &mut fmt::Formatter<W>) -> fmt::Result {
+        match self {
+            Refusal::Geometry => write!(f, "geometry"),
+            Refusal::NoStore => write!(f, "no store"),
+            Refusal::Unfinished => write!(f, "unfinished"),
+            Refusal::Reserved => write!(f, "reserved"),
+            Refusal::Empty => write!(f, "empty"),
+            Refusal::TooLong => write!(f, "too long"),
+            Refusal::NoRoom => write!(f, "no room"),
+            Refusal::Absent => write!(f, "absent"),
+            Refusal::BadData => write!(f, "bad data"),
+            Refusal::ShortBuffer(length) => write!(f, "short buffer {length}"),
+        }
+    }
 }
 
-// What a format, mount, write or delete answers: all stores made, with their number and the turns; cut at the allowance, with
-// the stores made; or a refusal.
-#[derive(Clone, Copy)]
+// What a read answers: the value's length, or a refusal.
+pub type Reply = Result<usize, Refusal>;
+
+// What a format, mount, write or delete came to: all stores made, with their number and the turns; or cut at the allowance, with the
+// stores made.
+#[derive(Clone, Copy, Debug, PartialEq, Eq)]
 pub enum Answer {
-    Done(u32, u32),
-    Cut(u32),
-    Refused(Refusal),
+    Done { stores: u32, turns: u32 },
+    Cut { stores: u32 },
+}
+
+impl fmt::Display for Answer {
+    fn fmt<W: fmt::Write>(&self, f: &mut fmt::Formatter<W>) -> fmt::Result {
+        match self {
+            Answer::Done { stores, turns } => write!(f, "stores {stores} turns {turns}"),
+            Answer::Cut { stores } => write!(f, "cut stores {stores} turns 0"),
+        }
+    }
 }
 
 // The answer, and the last store made, which gives the driver its trace.
 #[derive(Clone, Copy)]
 pub struct Outcome {
     pub answer: Answer,
-    pub last: Last,
+    pub last: Option<Store>,
 }
 
 impl Outcome {
-    // Nothing was stored.
-    pub fn refused(refusal: Refusal) -> Outcome
-        ensures { result ≡ refused_as refusal }
-    {
-        Outcome {
-            answer: Answer::Refused(refusal),
-            last: Last::Nothing,
-        }
-    }
-
-    // By what is left of the allowance, and the turns of a call that was not cut.
-    pub fn ended(allowance: u32, budget: Budget, turns: u32) -> Outcome
+    // By what is left of the allowance, whether the stores were cut, and the turns of a call that was not.
+    pub fn ended(allowance: u32, budget: Budget, made: Result<(), Cut>, turns: u32) -> Outcome
         requires { budget.left ≤ allowance }
-        ensures { result ≡ outcome_as allowance budget turns }
+        ensures { result ≡ outcome_as allowance budget made turns }
     {
-        let last = budget.last;
-        if budget.cut {
-            return Outcome {
-                answer: Answer::Cut(allowance),
-                last: last,
-            };
-        }
+        let answer = match made {
+            Ok(()) => Answer::Done {
+                stores: allowance - budget.left,
+                turns,
+            },
+            Err(Cut) => Answer::Cut { stores: allowance },
+        };
         Outcome {
-            answer: Answer::Done(allowance - budget.left, turns),
-            last: last,
+            answer,
+            last: budget.last,
         }
     }
 }

@@ -1,11 +1,21 @@
 // The paper's numbers of the answers.
 ghost use Rattle.std.specs.Prelude.{◌≡◌};
 ghost use Rattle.rules.specs.Calls as rule;
-ghost use Rattle.answer.specs.Answer.{refusal_of, reply_numbers_of, answer_numbers_of};
+ghost use Rattle.answer.specs.Answer.{refusal_of, numbers_of, reply_numbers_of, answer_numbers_of};
 
-use crate::{Answer, Refusal, Reply};
+use crate::{Answer, Outcome, Refusal, Reply};
+
+// The number of an answer, and the numbers that go with it: 0 where it tells none.
+#[derive(Clone, Copy, Debug, PartialEq, Eq)]
+pub struct Numbers {
+    pub number: u32,
+    pub stores: u32,
+    pub turns: u32,
+    pub length: usize,
+}
 
 impl Refusal {
+    #[tactic(auto, unfolding(rules::specs::Calls::refusal_number))]
     fn number(self) -> u32
         ensures { result ≡ rule.refusal_number (refusal_of self) }
     {
@@ -24,6 +34,7 @@ impl Refusal {
     }
 
     // The length that goes with it: a short buffer's; otherwise 0.
+    #[tactic(auto, unfolding(rules::specs::Calls::length_told))]
     fn length(self) -> usize
         ensures { result ≡ rule.length_told (refusal_of self) }
     {
@@ -34,54 +45,63 @@ impl Refusal {
     }
 }
 
-impl Reply {
-    pub fn number(self) -> u32
-        ensures { result ≡ (reply_numbers_of self).number }
+impl Numbers {
+    // Of a call that stores and was not refused: it tells no length.
+    fn made(number: u32, stores: u32, turns: u32) -> Numbers
+        ensures { numbers_of result ≡ record { number = number; stores = stores; turns = turns; length = 0 } }
     {
-        match self {
-            Reply::Value(_) => 0,
-            Reply::Refused(refusal) => refusal.number(),
-        }
-    }
-
-    pub fn length(self) -> usize
-        ensures { result ≡ (reply_numbers_of self).length }
-    {
-        match self {
-            Reply::Value(length) => length,
-            Reply::Refused(refusal) => refusal.length(),
+        Numbers {
+            number,
+            stores,
+            turns,
+            length: 0,
         }
     }
 }
 
-impl Answer {
-    pub fn number(self) -> u32
-        ensures { result ≡ (answer_numbers_of self).number }
-    {
-        match self {
-            Answer::Done(_, _) => 0,
-            Answer::Cut(_) => 11,
-            Answer::Refused(refusal) => refusal.number(),
+impl From<Refusal> for Numbers {
+    ghost from_gives = { λ refusal numbers. numbers_of numbers ≡ rule.reply_numbers (rule.refused (refusal_of refusal)) };
+
+    #[tactic(auto, unfolding(rules::specs::Calls::reply_numbers))]
+    fn from(refusal: Refusal) -> Numbers {
+        Numbers {
+            number: refusal.number(),
+            stores: 0,
+            turns: 0,
+            length: refusal.length(),
         }
     }
+}
 
-    pub fn stores(self) -> u32
-        ensures { result ≡ (answer_numbers_of self).stores }
-    {
-        match self {
-            Answer::Done(stores, _) => stores,
-            Answer::Cut(stores) => stores,
-            Answer::Refused(_) => 0,
+// What a read answers tells a length, and neither stores nor turns.
+impl From<Reply> for Numbers {
+    ghost from_gives = { λ reply numbers. numbers_of numbers ≡ reply_numbers_of reply };
+
+    fn from(reply: Reply) -> Numbers {
+        match reply {
+            Ok(length) => Numbers {
+                number: 0,
+                stores: 0,
+                turns: 0,
+                length,
+            },
+            Err(refusal) => Numbers::from(refusal),
         }
     }
+}
 
-    pub fn turns(self) -> u32
-        ensures { result ≡ (answer_numbers_of self).turns }
-    {
-        match self {
-            Answer::Done(_, turns) => turns,
-            Answer::Cut(_) => 0,
-            Answer::Refused(_) => 0,
+// What a call that stores answers tells stores and turns; a length with a refusal alone.
+impl From<Result<Outcome, Refusal>> for Numbers {
+    ghost from_gives = { λ made numbers. numbers_of numbers ≡ answer_numbers_of made };
+
+    #[tactic(auto, unfolding(rules::specs::Calls::reply_numbers, rules::specs::Calls::answer_numbers))]
+    fn from(made: Result<Outcome, Refusal>) -> Numbers {
+        match made {
+            Ok(outcome) => match outcome.answer {
+                Answer::Done { stores, turns } => Numbers::made(0, stores, turns),
+                Answer::Cut { stores } => Numbers::made(11, stores, 0),
+            },
+            Err(refusal) => Numbers::from(refusal),
         }
     }
 }

@@ -4,32 +4,30 @@ use mathlib.Core.Path.{◌≡◌, sym, ap, ap₂, ◌∙◌}
 use mathlib.Core.Bool.{true}
 use mathlib.Core.List.{List, [], ◌∷◌, ◌++◌}
 use Prim.Native.Nat.{ℕ, ◌+◌, ◌-◌, ◌<◌, ◌≤◌}
-use native.Mathlib.Nat.{zero-add}
 use native.Mathlib.Numerals.{add-one}
 use native.Mathlib.Omega.{arith}
 use lib.Dec.{ltb}
 use lib.ListN.{length, get_or, take, drop, take-append-drop}
-use lib.Seq.{paste, take-suc, take_all, length-take-le}
+use lib.Seq.{take-suc, take_all, length-take-le}
 use borrow.Author.Tests.{ltb-true, ltb-false}
+use Rattle.std.specs.Prelude.{Result, Err, is_err}
 use Rattle.rules.specs.Notation.{erased}
 use Rattle.rules.specs.Ground.{Block, block_size}
 use Rattle.rules.specs.Stores.{Store, data', data_stores}
 use Rattle.rules.proofs.Basics.Notation.{by-test, drop-erased}
 use Rattle.rules.proofs.Blocks.Data.{padded, data-append}
-use Rattle.layout.specs.declared.Geometry.{Geometry}
-use Rattle.budget.specs.declared.Budget.{Budget}
-use Rattle.budget.specs.Budget.{Did, Consistent}
-use Rattle.budget.proofs.Laws.{did_then, did-cut}
+use Rattle.budget.specs.declared.Cut.{Cut}
+use Rattle.budget.specs.declared.Writer.{Writer}
+use Rattle.budget.specs.Budget.{Did}
+use Rattle.budget.proofs.Laws.{Made, did_then, did-cut}
 
 -- ---- one block of a value
 
--- a block of FF with the first i bytes set, where that is all of them, or all there are
+-- the first i bytes of a value and then FF, where that is all of a block, or all there are
 pub block_of : (w : List ℕ) (i : ℕ) → i ≤ block_size → i ≤ length w → block_size - length w ≡ block_size - i
-    → paste (erased block_size) 0 w i ≡ take block_size (w ++ erased block_size)
+    → take i w ++ drop i (erased block_size) ≡ take block_size (w ++ erased block_size)
 block_of w i few inside rest =
-    ap (λ (n : ℕ). take i w ++ drop n (erased block_size)) (zero-add i)
-    ∙ ap₂ ◌++◌ (sym first) (drop-erased i block_size few ∙ ap erased (sym rest))
-    ∙ sym (padded w block_size (omega arith))
+    ap₂ ◌++◌ (sym first) (drop-erased i block_size few ∙ ap erased (sym rest)) ∙ sym (padded w block_size (omega arith))
   where
     first : take block_size w ≡ take i w
     first =
@@ -41,14 +39,13 @@ block_of w i few inside rest =
 
 -- ---- a run of stores upward
 
-module _ {g : Geometry} {before middle : List ℕ} {budget stored : Budget} (s b : ℕ) (blocks : List Block) (k : ℕ)
-    (did : Did g before (data_stores s b (take k blocks)) budget middle stored) where
+module _ {T : Type 0} {w w' w'' : Writer} {r : Result T Cut} (s b : ℕ) (blocks : List Block) (k : ℕ)
+    (did : Made w (data_stores s b (take k blocks)) w') (inside : k < length blocks)
+    (next : Did w' (record { sector = s; block = b + k; kind = data'; bytes = get_or blocks k [] } ∷ []) w'' r) where
   -- one block more
-  pub data-more : {after : List ℕ} {r : Budget} → k < length blocks
-      → Did g middle (record { sector = s; block = b + k; kind = data'; bytes = get_or blocks k [] } ∷ []) stored after r
-      → Did g before (data_stores s b (take (k + 1) blocks)) budget after r
+  pub data-more : Did w (data_stores s b (take (k + 1) blocks)) w'' r
   unfolding data_stores
-  data-more {after} {r} inside next =
+  data-more =
       let count : length (take k blocks) ≡ k = length-take-le k blocks (omega arith) in
       let last : Store = record { sector = s; block = b + k; kind = data'; bytes = get_or blocks k [] } in
       let same : data_stores s b (take (k + 1) blocks) ≡ data_stores s b (take k blocks) ++ (last ∷ []) =
@@ -58,12 +55,15 @@ module _ {g : Geometry} {before middle : List ℕ} {budget stored : Budget} (s b
       ∙ ap (λ (n : ℕ). data_stores s b (take k blocks) ++ data_stores s (b + n) (get_or blocks k [] ∷ [])) count in
       rw same (did_then did next)
 
-  -- cut: no more are made
-  pub data-cut : Consistent budget → stored.cut ≡ true → Did g before (data_stores s b blocks) budget middle stored
-  data-cut ok cut =
-      let same : data_stores s b blocks ≡ data_stores s b (take k blocks) ++ data_stores s (b + length (take k blocks)) (drop k blocks) =
-      ap (data_stores s b) (sym (take-append-drop k blocks)) ∙ data-append s b (take k blocks) (drop k blocks) in
-      rw same (did-cut _ ok did cut)
+-- cut at a block: no more are made
+pub data-cut : {T U : Type 0} {w w' : Writer} {e : Cut} {r : Result U Cut} (s b : ℕ) (blocks : List Block) (k : ℕ)
+    → Did {T = T} w (data_stores s b (take k blocks)) w' (Err e) → is_err r ≡ true → Did w (data_stores s b blocks) w' r
+data-cut s b blocks k did cut =
+    let same : data_stores s b blocks ≡ data_stores s b (take k blocks) ++ data_stores s (b + length (take k blocks)) (drop k blocks) =
+    ap (data_stores s b) (sym (take-append-drop k blocks)) ∙ data-append s b (take k blocks) (drop k blocks) in
+    rw same (did-cut _ did cut)
 
-  pub data-all : length blocks ≤ k → Did g before (data_stores s b blocks) budget middle stored
-  data-all whole = rw (take_all k blocks whole) at did
+-- the last block: that is all
+pub data-all : {w w' : Writer} (s b : ℕ) (blocks : List Block) (k : ℕ)
+    → Made w (data_stores s b (take k blocks)) w' → length blocks ≤ k → Made w (data_stores s b blocks) w'
+data-all s b blocks k did whole = rw (take_all k blocks whole) at did

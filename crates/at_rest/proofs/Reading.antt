@@ -1,10 +1,13 @@
 -- What a read answers, by what is told of the ID: the four cases of its rule.
 -- Assumes nothing.
-use mathlib.Core.Path.{◌≡◌, sym, ap, ◌∙◌}
+use mathlib.Core.Path.{◌≡◌, sym, ap, ap₂, ◌∙◌}
 use mathlib.Core.Bool.{true, false}
 use mathlib.Core.List.{List, ◌++◌}
-use mathlib.Core.Option.{Option, none}
-use Prim.Native.Nat.{ℕ, ◌<◌, ◌≤◌}
+use mathlib.Core.Option as rule-option
+use mathlib.Core.Option.{none}
+use Rattle.std.specs.Prelude.{Option}
+use Prim.Native.Nat.{ℕ, ◌+◌, ◌-◌, ◌<◌, ◌≤◌}
+use native.Mathlib.Omega.{arith}
 use lib.ListN.{length, take, drop}
 use borrow.Author.Tests.{lt-ltb, le-ltb}
 use Rattle.rules.specs.Reading.{Entry}
@@ -12,15 +15,20 @@ use Rattle.rules.specs.Meaning.{is_sound}
 use Rattle.rules.specs.Calls as rule
 use Rattle.rules.specs.Calls.{read_entry, buffer_after}
 use Rattle.rules.proofs.Basics.Lists.{length_part}
-use Rattle.search.specs.declared.Check.{Check}
 use Rattle.search.specs.Value.{passes}
 use Rattle.search.proofs.Valued.{Holds}
 
-pub reply-absent : (room : ℕ) {told : Option Entry} → told ≡ none → read_entry room told ≡ rule.refused rule.absent
+-- a value's bytes, as they are lent
+pub part_lem : (bytes : List ℕ) (len : ℕ) {start place : ℕ} → start ≡ place → take (start + len - start) (drop start bytes) ≡ take len (drop place bytes)
+part_lem bytes len {start} {place} same =
+    let long : start + len - start ≡ len = omega arith in
+    ap₂ (λ (n p : ℕ). take n (drop p bytes)) long same
+
+pub reply-absent : (room : ℕ) {told : rule-option.Option Entry} → told ≡ none → read_entry room told ≡ rule.refused rule.absent
 unfolding read_entry
 reply-absent room e = rw e
 
-module _ {bytes : List ℕ} {told : Option Entry} {place len : ℕ} {check : Check} (h : Holds bytes told place len check) (room : ℕ) where
+module _ {bytes : List ℕ} {told : rule-option.Option Entry} {place len : ℕ} {check : Option ℕ} (h : Holds bytes told place len check) (room : ℕ) where
   pub reply-short : room < len → read_entry room told ≡ rule.refused (rule.short_buffer len)
   unfolding read_entry
   reply-short short = rw (h.told, h.length, lt-ltb room len short)

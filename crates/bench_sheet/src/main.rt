@@ -2,9 +2,8 @@
 // A program of the gate: the rows of the bench sheet, run. What it must write was worked out from the sheet.
 ghost use Rattle.std.specs.Prelude.{◌≤◌};
 
-use answer::Answer;
-use budget::Last;
-use console::{Command, words};
+use answer::Numbers;
+use console::{Command, Told};
 use std::io;
 
 // The largest allowance, and the longest buffer.
@@ -12,34 +11,16 @@ const ENOUGH: u32 = 4294967295;
 
 const ROOM: usize = 65536;
 
-fn say(rt: &impl Print, text: &[u8]) -> io::Result<()> {
-    rt.write_all(text)
-}
-
 // A command with its trace, cut at an allowance.
-fn cut_run(
-    rt: &impl Print,
-    image: &mut [u8],
-    size: usize,
-    count: usize,
-    command: Command,
-    value: &[u8],
-    allowance: u32,
-) -> io::Result<()> {
-    console::run(rt, image, size, count, command, value, allowance)?;
-    Ok(())
-}
-
-// A command with its trace.
 fn run(
     rt: &impl Print,
     image: &mut [u8],
     size: usize,
     count: usize,
-    command: Command,
-    value: &[u8],
+    command: Command<'_>,
+    allowance: u32,
 ) -> io::Result<()> {
-    console::run(rt, image, size, count, command, value, ENOUGH)?;
+    let _ = console::run(rt, image, size, count, command, allowance)?;
     Ok(())
 }
 
@@ -49,41 +30,22 @@ fn tell(
     image: &mut [u8],
     size: usize,
     count: usize,
-    command: Command,
-    value: &[u8],
+    command: Command<'_>,
 ) -> io::Result<()> {
-    let outcome = console::call(image, size, count, command, value, ENOUGH);
-    let answer = outcome.answer;
-    words::told(rt, answer)?;
-    Ok(())
+    println!(rt;
+        "{}",
+        Told(console::call(image, size, count, command, ENOUGH))
+    )
 }
 
 fn read(rt: &impl Print, image: &[u8], size: usize, count: usize, id: u32) -> io::Result<()> {
-    console::show(rt, image, size, count, id, ROOM)?;
+    let _ = console::show(rt, image, size, count, id, ROOM)?;
     Ok(())
 }
 
 // A store without values.
 fn fresh(image: &mut [u8], size: usize, count: usize) {
-    console::call(image, size, count, Command::Format, b"", ENOUGH);
-}
-
-// 1 if the answer is 0, otherwise 0.
-fn landed(answer: Answer) -> u64
-    ensures { result ≤ 1 }
-{
-    if answer.number() == 0 { 1 } else { 0 }
-}
-
-// 1 if it tells a turn, otherwise 0.
-fn turned(answer: Answer) -> u64
-    ensures { result ≤ 1 }
-{
-    if answer.turns() == 0 { 0 } else { 1 }
-}
-
-fn print_ids(rt: &impl Print, first: u32, last: u32, written: u64, turns: u64) -> io::Result<()> {
-    println!(rt; "IDs {first} to {last}: {written} written, {turns} with a turn")
+    let _ = console::call(image, size, count, Command::Format, ENOUGH);
 }
 
 // Writes of consecutive IDs, counted.
@@ -100,14 +62,14 @@ fn write_ids(
     requires last_bound { last ≤ 1000 }
 {
     let mut written = 0;
-    let mut turns = 0;
+    let mut turned = 0;
     for id in first..=last {
-        let outcome = console::call(image, size, count, Command::Write(id), value, ENOUGH);
-        let answer = outcome.answer;
-        written += landed(answer);
-        turns += turned(answer);
+        let made = console::call(image, size, count, Command::Write(id, value), ENOUGH);
+        let numbers = Numbers::from(made);
+        written += u64::from(numbers.number == 0);
+        turned += u64::from(numbers.turns != 0);
     }
-    print_ids(rt, first, last, written, turns)
+    println!(rt; "IDs {first} to {last}: {written} written, {turned} with a turn")
 }
 
 // ---- rows 1 to 6, 4 sectors of 1024
@@ -116,42 +78,42 @@ fn row_1(rt: &impl Print) -> io::Result<()> {
     let value = [0xA5; 929];
     let mut image = [0xFF; 4096];
     fresh(&mut image, 1024, 4);
-    say(rt, b"1. 4 x 1024, 928 bytes: ")?;
-    tell(rt, &mut image, 1024, 4, Command::Write(1), &value[..928])?;
-    say(rt, b"   929 bytes: ")?;
-    tell(rt, &mut image, 1024, 4, Command::Write(1), &value)?;
+    print!(rt; "1. 4 x 1024, 928 bytes: ")?;
+    tell(rt, &mut image, 1024, 4, Command::Write(1, &value[..928]))?;
+    print!(rt; "   929 bytes: ")?;
+    tell(rt, &mut image, 1024, 4, Command::Write(1, &value))?;
     let mut small = [0xFF; 512];
     fresh(&mut small, 128, 4);
-    say(rt, b"   4 x 128, 32 bytes: ")?;
-    tell(rt, &mut small, 128, 4, Command::Write(1), &value[..32])?;
-    say(rt, b"   33 bytes: ")?;
-    tell(rt, &mut small, 128, 4, Command::Write(1), &value[..33])
+    print!(rt; "   4 x 128, 32 bytes: ")?;
+    tell(rt, &mut small, 128, 4, Command::Write(1, &value[..32]))?;
+    print!(rt; "   33 bytes: ")?;
+    tell(rt, &mut small, 128, 4, Command::Write(1, &value[..33]))
 }
 
 fn row_2(rt: &impl Print, image: &mut [u8], value: &[u8]) -> io::Result<()> {
-    say(rt, b"2. 4 x 1024, 8 bytes: ")?;
+    print!(rt; "2. 4 x 1024, 8 bytes: ")?;
     write_ids(rt, image, 1024, 4, value, 1, 59)?;
-    say(rt, b"   the 60th: ")?;
-    run(rt, image, 1024, 4, Command::Write(60), value)
+    print!(rt; "   the 60th: ")?;
+    run(rt, image, 1024, 4, Command::Write(60, value), ENOUGH)
 }
 
 fn row_3(rt: &impl Print, image: &mut [u8], value: &[u8]) -> io::Result<()> {
-    say(rt, b"3. there: ")?;
+    print!(rt; "3. there: ")?;
     write_ids(rt, image, 1024, 4, value, 61, 177)?;
-    say(rt, b"   the 178th: ")?;
-    run(rt, image, 1024, 4, Command::Write(178), value)?;
-    say(rt, b"   ID 1 again: ")?;
-    run(rt, image, 1024, 4, Command::Write(1), value)?;
-    say(rt, b"   ID 1 still: ")?;
+    print!(rt; "   the 178th: ")?;
+    run(rt, image, 1024, 4, Command::Write(178, value), ENOUGH)?;
+    print!(rt; "   ID 1 again: ")?;
+    run(rt, image, 1024, 4, Command::Write(1, value), ENOUGH)?;
+    print!(rt; "   ID 1 still: ")?;
     read(rt, image, 1024, 4, 1)
 }
 
 fn row_4(rt: &impl Print, image: &mut [u8], value: &[u8]) -> io::Result<()> {
-    say(rt, b"4. delete of ID 1: ")?;
-    run(rt, image, 1024, 4, Command::Delete(1), value)?;
-    say(rt, b"   the next new ID: ")?;
-    tell(rt, image, 1024, 4, Command::Write(178), value)?;
-    say(rt, b"   ID 1 now: ")?;
+    print!(rt; "4. delete of ID 1: ")?;
+    run(rt, image, 1024, 4, Command::Delete(1), ENOUGH)?;
+    print!(rt; "   the next new ID: ")?;
+    tell(rt, image, 1024, 4, Command::Write(178, value))?;
+    print!(rt; "   ID 1 now: ")?;
     read(rt, image, 1024, 4, 1)
 }
 
@@ -170,37 +132,29 @@ fn row_5(rt: &impl Print) -> io::Result<()> {
     let mut space = [0xFF; 4096];
     let image: &mut [u8] = &mut space;
     fresh(image, 1024, 4);
-    say(rt, b"5. 4 x 1024, 64 bytes: ")?;
+    print!(rt; "5. 4 x 1024, 64 bytes: ")?;
     write_ids(rt, image, 1024, 4, &value, 1, 11)?;
-    say(rt, b"   ")?;
+    print!(rt; "   ")?;
     write_ids(rt, image, 1024, 4, &value, 12, 33)?;
-    say(rt, b"   the 34th: ")?;
-    run(rt, image, 1024, 4, Command::Write(34), &value)
-}
-
-// The sector of the last store, or none that there is.
-fn sector_of(last: Last) -> usize {
-    match last {
-        Last::Store(s, _, _) => s.number(),
-        Last::Nothing => 64,
-    }
-}
-
-fn print_sector(rt: &impl Print, n: u32, sector: usize) -> io::Result<()> {
-    println!(rt; "   write {n} goes to sector {sector}")
+    print!(rt; "   the 34th: ")?;
+    run(rt, image, 1024, 4, Command::Write(34, &value), ENOUGH)
 }
 
 // A line for each write of ID 7 that goes to another sector than the one before.
 fn write_often(rt: &impl Print, image: &mut [u8], value: &[u8]) -> io::Result<()> {
-    let mut sector = 64;
+    let mut last = None;
     for n in 1..=237 {
-        let outcome = console::call(image, 1024, 4, Command::Write(7), value, ENOUGH);
-        let last = outcome.last;
-        let next = sector_of(last);
-        if next != sector {
-            print_sector(rt, n, next)?;
+        let made = console::call(image, 1024, 4, Command::Write(7, value), ENOUGH);
+        let next = made
+            .ok()
+            .and_then(|outcome| outcome.last)
+            .map(|store| store.sector.number());
+        if let Some(sector) = next
+            && next != last
+        {
+            println!(rt; "   write {n} goes to sector {sector}")?;
         }
-        sector = next;
+        last = next;
     }
     Ok(())
 }
@@ -209,7 +163,7 @@ fn row_6(rt: &impl Print) -> io::Result<()> {
     let mut space = [0xFF; 4096];
     let image: &mut [u8] = &mut space;
     fresh(image, 1024, 4);
-    say(rt, b"6. 4 x 1024, ID 7 with 8 bytes\n")?;
+    println!(rt; "6. 4 x 1024, ID 7 with 8 bytes")?;
     write_often(rt, image, &[6; 8])
 }
 
@@ -217,13 +171,13 @@ fn row_6(rt: &impl Print) -> io::Result<()> {
 
 fn row_7(rt: &impl Print) -> io::Result<()> {
     let mut image = [0xFF; 256];
-    say(rt, b"7. an image of blanks, mount: ")?;
-    run(rt, &mut image, 128, 2, Command::Mount, b"")
+    print!(rt; "7. an image of blanks, mount: ")?;
+    run(rt, &mut image, 128, 2, Command::Mount, ENOUGH)
 }
 
 // A write of ID 7.
 fn write(image: &mut [u8], value: &[u8]) {
-    console::call(image, 128, 2, Command::Write(7), value, ENOUGH);
+    let _ = console::call(image, 128, 2, Command::Write(7, value), ENOUGH);
 }
 
 // Three of them.
@@ -235,113 +189,104 @@ fn three(image: &mut [u8]) {
 }
 
 fn row_9(rt: &impl Print, image: &mut [u8]) -> io::Result<()> {
-    say(rt, b"9. 2 x 128, ID 7 with 8 bytes, the first: ")?;
-    run(rt, image, 128, 2, Command::Write(7), &[1; 8])?;
-    say(rt, b"   the second: ")?;
-    run(rt, image, 128, 2, Command::Write(7), &[2; 8])?;
-    say(rt, b"   the third: ")?;
-    run(rt, image, 128, 2, Command::Write(7), &[3; 8])?;
-    say(rt, b"   the fourth: ")?;
-    run(rt, image, 128, 2, Command::Write(7), &[4; 8])
+    print!(rt; "9. 2 x 128, ID 7 with 8 bytes, the first: ")?;
+    run(rt, image, 128, 2, Command::Write(7, &[1; 8]), ENOUGH)?;
+    print!(rt; "   the second: ")?;
+    run(rt, image, 128, 2, Command::Write(7, &[2; 8]), ENOUGH)?;
+    print!(rt; "   the third: ")?;
+    run(rt, image, 128, 2, Command::Write(7, &[3; 8]), ENOUGH)?;
+    print!(rt; "   the fourth: ")?;
+    run(rt, image, 128, 2, Command::Write(7, &[4; 8]), ENOUGH)
 }
 
 // The fourth write was cut: what a mount makes of it.
 fn mended(rt: &impl Print, image: &mut [u8]) -> io::Result<()> {
-    say(rt, b"   mount: ")?;
-    run(rt, image, 128, 2, Command::Mount, b"")?;
-    say(rt, b"   read: ")?;
+    print!(rt; "   mount: ")?;
+    run(rt, image, 128, 2, Command::Mount, ENOUGH)?;
+    print!(rt; "   read: ")?;
     read(rt, image, 128, 2, 7)
 }
 
 fn row_10(rt: &impl Print, image: &mut [u8]) -> io::Result<()> {
     three(image);
-    say(rt, b"10. the fourth, cut after 2: ")?;
-    cut_run(rt, image, 128, 2, Command::Write(7), &[4; 8], 2)?;
-    say(rt, b"   read: ")?;
+    print!(rt; "10. the fourth, cut after 2: ")?;
+    run(rt, image, 128, 2, Command::Write(7, &[4; 8]), 2)?;
+    print!(rt; "   read: ")?;
     read(rt, image, 128, 2, 7)?;
     mended(rt, image)?;
     three(image);
-    say(rt, b"   the fourth, cut after 3: ")?;
-    cut_run(rt, image, 128, 2, Command::Write(7), &[4; 8], 3)?;
+    print!(rt; "   the fourth, cut after 3: ")?;
+    run(rt, image, 128, 2, Command::Write(7, &[4; 8]), 3)?;
     mended(rt, image)
 }
 
-// A mount that may make one store.
-fn mount(image: &mut [u8]) {
-    console::call(image, 128, 2, Command::Mount, b"", 1);
-}
-
-// So many of them.
+// So many mounts that may make one store.
 fn mounts(image: &mut [u8], count: u32) {
     for _ in 0..count {
-        mount(image);
+        let _ = console::call(image, 128, 2, Command::Mount, 1);
     }
 }
 
 // One more, and the cycle byte of sector 1 after it.
 fn mount_once(rt: &impl Print, image: &mut [u8; 256]) -> io::Result<()> {
-    cut_run(rt, image, 128, 2, Command::Mount, b"", 1)?;
-    let cycle = image[241];
-    println!(rt; "   cycle of sector 1: {cycle}")
+    run(rt, image, 128, 2, Command::Mount, 1)?;
+    println!(rt; "   cycle of sector 1: {}", image[241])
 }
 
 // Row 8 too: the counter goes from 255 to 0.
 fn row_11(rt: &impl Print) -> io::Result<()> {
     let mut image = [0xFF; 256];
     three(&mut image);
-    console::call(&mut image, 128, 2, Command::Write(7), &[4; 8], 2);
+    let _ = console::call(&mut image, 128, 2, Command::Write(7, &[4; 8]), 2);
     mounts(&mut image, 254);
-    say(
-        rt,
-        b"11. after the cut at 2, mounts of allowance 1, the 255th: ",
-    )?;
+    print!(rt; "11. after the cut at 2, mounts of allowance 1, the 255th: ")?;
     mount_once(rt, &mut image)?;
-    say(rt, b"   the 256th: ")?;
+    print!(rt; "   the 256th: ")?;
     mount_once(rt, &mut image)
 }
 
 fn row_12(rt: &impl Print, image: &mut [u8]) -> io::Result<()> {
     fresh(image, 128, 2);
-    say(rt, b"12. fresh, read of ID 0: ")?;
+    print!(rt; "12. fresh, read of ID 0: ")?;
     read(rt, image, 128, 2, 0)?;
-    say(rt, b"   mount: ")?;
-    run(rt, image, 128, 2, Command::Mount, b"")?;
-    say(rt, b"   delete of ID 0: ")?;
-    run(rt, image, 128, 2, Command::Delete(0), b"")
+    print!(rt; "   mount: ")?;
+    run(rt, image, 128, 2, Command::Mount, ENOUGH)?;
+    print!(rt; "   delete of ID 0: ")?;
+    run(rt, image, 128, 2, Command::Delete(0), ENOUGH)
 }
 
 // All five calls.
 fn off(rt: &impl Print, image: &mut [u8], size: usize, count: usize) -> io::Result<()> {
-    run(rt, image, size, count, Command::Format, b"")?;
-    run(rt, image, size, count, Command::Mount, b"")?;
-    run(rt, image, size, count, Command::Write(1), b"a")?;
-    run(rt, image, size, count, Command::Delete(1), b"")?;
+    run(rt, image, size, count, Command::Format, ENOUGH)?;
+    run(rt, image, size, count, Command::Mount, ENOUGH)?;
+    run(rt, image, size, count, Command::Write(1, b"a"), ENOUGH)?;
+    run(rt, image, size, count, Command::Delete(1), ENOUGH)?;
     read(rt, image, size, count, 1)
 }
 
 fn row_13(rt: &impl Print) -> io::Result<()> {
     let mut small = [0xFF; 448];
-    say(rt, b"13. 4 x 112: ")?;
+    print!(rt; "13. 4 x 112: ")?;
     off(rt, &mut small, 112, 4)?;
     let mut odd = [0xFF; 544];
-    say(rt, b"   4 x 136: ")?;
+    print!(rt; "   4 x 136: ")?;
     off(rt, &mut odd, 136, 4)?;
     let mut large = [0xFF; 131104];
-    say(rt, b"   2 x 65552: ")?;
+    print!(rt; "   2 x 65552: ")?;
     off(rt, &mut large, 65552, 2)?;
     let mut one = [0xFF; 1024];
-    say(rt, b"   1 x 1024: ")?;
+    print!(rt; "   1 x 1024: ")?;
     off(rt, &mut one, 1024, 1)?;
     let mut many = [0xFF; 8320];
-    say(rt, b"   65 x 128: ")?;
+    print!(rt; "   65 x 128: ")?;
     off(rt, &mut many, 128, 65)
 }
 
 fn row_14(rt: &impl Print, image: &mut [u8]) -> io::Result<()> {
-    say(rt, b"14. format cut after 1: ")?;
-    cut_run(rt, image, 128, 2, Command::Format, b"", 1)?;
-    say(rt, b"   mount: ")?;
-    run(rt, image, 128, 2, Command::Mount, b"")
+    print!(rt; "14. format cut after 1: ")?;
+    run(rt, image, 128, 2, Command::Format, 1)?;
+    print!(rt; "   mount: ")?;
+    run(rt, image, 128, 2, Command::Mount, ENOUGH)
 }
 
 fn main(rt: HostRuntime) -> io::Result<()> {

@@ -2,7 +2,7 @@
 -- in a row are the first n of one, and of the other as many as that leaves.
 -- Assumes nothing.
 use mathlib.Core.Path.{◌≡◌, refl, sym, ap, ap₂, ◌∙◌}
-use mathlib.Core.Bool.{Bool, true, false, ◌||◌, or_assoc, or-false, false≢true}
+use mathlib.Core.Bool.{Bool, ◌||◌}
 use mathlib.Core.List.{List, [], ◌∷◌, ◌++◌}
 use Prim.Native.Nat.{ℕ, ◌+◌, ◌-◌, ◌≤◌}
 use native.Mathlib.Omega.{arith}
@@ -10,14 +10,15 @@ use lib.Dec.{ltb}
 use lib.ListN.{length, take, length-append}
 use lib.Seq.{take-nil}
 use borrow.Author.Tests.{ltb-true, ltb-false, lt-ltb, le-ltb}
+use Rattle.std.specs.Prelude.{Option, Some}
 use Rattle.rules.specs.Stores as rule
 use Rattle.rules.proofs.Basics.Lists.{take-append}
-use Rattle.rules.proofs.Basics.Notation.{both_false, by-test}
+use Rattle.rules.proofs.Basics.Notation.{by-test}
 use Rattle.budget.specs.declared.Kind.{Kind}
 use Rattle.budget.specs.declared.Kind.TheVariants as kind
-use Rattle.budget.specs.declared.Last.{Last}
+use Rattle.budget.specs.declared.Store.{Store}
 use Rattle.budget.specs.declared.Budget.{Budget}
-use Rattle.budget.specs.Budget.{kind_of, kind_as, last_as, last_of, budget_of, spent, Consistent}
+use Rattle.budget.specs.Budget.{kind_of, kind_as, store_as, last_of, spent}
 
 -- ---- kinds
 
@@ -42,15 +43,15 @@ kind-of-as rule.blank = refl
 -- ---- what stores leave of a budget
 
 -- a budget by its fields
-pub same-budget : {b b' : Budget} → b.left ≡ b'.left → b.cut ≡ b'.cut → b.last ≡ b'.last → b ≡ b'
-same-budget left cut last i = record { left = left i; cut = cut i; last = last i }
+pub same-budget : {b b' : Budget} → b.left ≡ b'.left → b.last ≡ b'.last → b ≡ b'
+same-budget left last i = record { left = left i; last = last i }
 
 pub spent-left : (b : Budget) (ss : List rule.Store) → (spent b ss).left ≡ b.left - length ss
 unfolding spent
 spent-left b ss = refl
 
 -- an allowance is below two counts together where it is below the first, or what is left of it below the second
-below-sum : (a m n : ℕ) → ltb a (m + n) ≡ (ltb a m || ltb (a - m) n)
+pub below-sum : (a m n : ℕ) → ltb a (m + n) ≡ (ltb a m || ltb (a - m) n)
 below-sum a m n =
     by-test (ltb a m)
     (λ few. lt-ltb a (m + n) (omega (arith, ltb-true a m few)) ∙ ap (λ (t : Bool). t || ltb (a - m) n) (sym few))
@@ -59,71 +60,28 @@ below-sum a m n =
     (λ few. lt-ltb a (m + n) (omega (arith, ltb-false a m enough, ltb-true (a - m) n few)) ∙ sym (ap₂ ◌||◌ enough few))
     (λ both. le-ltb a (m + n) (omega (arith, ltb-false a m enough, ltb-false (a - m) n both)) ∙ sym (ap₂ ◌||◌ enough both)))
 
-last-append : (told : Last) (xs ys : List rule.Store) → last_of told (xs ++ ys) ≡ last_of (last_of told xs) ys
+last-append : (told : Option Store) (xs ys : List rule.Store) → last_of told (xs ++ ys) ≡ last_of (last_of told xs) ys
 unfolding last_of
 last-append told [] ys = refl
-last-append told (x ∷ xs) ys = last-append (last_as x) xs ys
+last-append told (x ∷ xs) ys = last-append (Some (store_as x)) xs ys
 
 pub spent-none : (b : Budget) → spent b [] ≡ b
 unfolding spent last_of
-spent-none b =
-    same-budget (omega arith) (ap (λ (t : Bool). b.cut || t) (le-ltb b.left 0 (omega arith)) ∙ or-false b.cut)
-    (ap (last_of b.last) (take-nil b.left))
+spent-none b = same-budget (omega arith) (ap (last_of b.last) (take-nil b.left))
 
 pub spent-append : (b : Budget) (xs ys : List rule.Store) → spent b (xs ++ ys) ≡ spent (spent b xs) ys
 unfolding spent
 spent-append b xs ys =
     same-budget (omega (arith, length-append xs ys))
-    (ap (λ (n : ℕ). b.cut || ltb b.left n) (length-append xs ys)
-    ∙ ap (λ (t : Bool). b.cut || t) (below-sum b.left (length xs) (length ys))
-    ∙ sym (or_assoc b.cut (ltb b.left (length xs)) (ltb (b.left - length xs) (length ys))))
     (ap (last_of b.last) (take-append b.left xs ys)
     ∙ last-append b.last (take b.left xs) (take (b.left - length xs) ys))
 
--- nothing more is made once nothing is left, and a cut budget stays as it is
-pub spent-up : (b : Budget) (xs ys : List rule.Store) → b.left ≤ length xs → (spent b xs).cut ≡ true → spent b (xs ++ ys) ≡ spent b xs
+-- nothing more is made once nothing is left
+pub spent-up : (b : Budget) (xs ys : List rule.Store) → b.left ≤ length xs → spent b (xs ++ ys) ≡ spent b xs
 unfolding spent last_of
-spent-up b xs ys none cut =
+spent-up b xs ys none =
     spent-append b xs ys
-    ∙ same-budget (omega arith) (ap (λ (t : Bool). t || ltb (b.left - length xs) (length ys)) cut ∙ sym cut)
-    (ap (λ (n : ℕ). last_of (last_of b.last (take b.left xs)) (take n ys)) gone)
+    ∙ same-budget (omega arith) (ap (λ (n : ℕ). last_of (last_of b.last (take b.left xs)) (take n ys)) gone)
   where
     gone : b.left - length xs ≡ 0
     gone = omega arith
-
-pub spent-cut : (b : Budget) (ss : List rule.Store) → Consistent b → b.cut ≡ true → spent b ss ≡ b
-spent-cut b ss k cut =
-    spent-up b [] ss (omega (arith, k.none_left cut)) (ap (λ (x : Budget). x.cut) (spent-none b) ∙ cut) ∙ spent-none b
-
--- ---- a budget that is cut, and one that is not
-
--- not cut: the stores were within it
-pub uncut : (b : Budget) (ss : List rule.Store) → (spent b ss).cut ≡ false → length ss ≤ b.left
-unfolding spent
-uncut b ss e = ltb-false b.left (length ss) (both_false b.cut (ltb b.left (length ss)) e).1
-
--- cut: there were at least as many stores as it had left
-pub used-up : (b : Budget) (ss : List rule.Store) → Consistent b → (spent b ss).cut ≡ true → b.left ≤ length ss
-unfolding spent
-used-up b ss k e =
-    by-test b.cut (λ cut. omega (arith, k.none_left cut))
-    (λ whole.
-    let few : ltb b.left (length ss) ≡ true = ap (λ (t : Bool). t || ltb b.left (length ss)) (sym whole) ∙ e in
-    omega (arith, ltb-true b.left (length ss) few))
-
-pub uncut-consistent : (b : Budget) → b.cut ≡ false → Consistent b
-uncut-consistent b e = record { none_left = λ cut. absurd (false≢true (sym e ∙ cut)) }
-
-pub spent-consistent : (b : Budget) (ss : List rule.Store) → Consistent b → Consistent (spent b ss)
-unfolding spent
-spent-consistent b ss k = record { none_left = λ cut. omega (arith, used-up b ss k cut) }
-
--- ---- the budget of an allowance
-
-pub new-consistent : (a : ℕ) → Consistent (budget_of a)
-new-consistent a = uncut-consistent (budget_of a) refl
-
--- cut exactly where the allowance is below the stores due
-pub new-cut : (a : ℕ) (ss : List rule.Store) → (spent (budget_of a) ss).cut ≡ ltb a (length ss)
-unfolding spent
-new-cut a ss = refl

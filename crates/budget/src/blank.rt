@@ -3,10 +3,10 @@ ghost use Rattle.std.specs.Prelude.{◌≡◌, [], ◌∷◌, ◌<◌};
 ghost use Rattle.rules.specs.Ground.{blank_block};
 ghost use Rattle.rules.specs.Stores.{blank_store, blank_if};
 ghost use Rattle.layout.specs.Numbers.{sector_no, block_no};
-ghost use Rattle.layout.specs.Geometry.{blocks_of, sectors_of, Backs};
+ghost use Rattle.layout.specs.Geometry.{blocks_of, sectors_of};
 ghost use Rattle.budget.specs.Budget.{Did};
 
-use crate::{Budget, Kind, put};
+use crate::{Cut, Kind, Writer};
 use layout::{Block, Geometry, Sector};
 
 // The bytes of a blank block.
@@ -16,32 +16,23 @@ pub fn bytes() -> [u8; Geometry::BLOCK_SIZE]
     [entry::ERASED; Geometry::BLOCK_SIZE]
 }
 
-// A blank at block b.
-pub fn put_blank(image: &mut [u8], g: Geometry, s: Sector, b: Block, budget: Budget) -> Budget
-    requires backs { Backs g image.old }
-    requires s_bound { sector_no s < sectors_of g }
-    requires b_bound { block_no b < blocks_of g }
-    ensures { Did g image.old (blank_store (sector_no s) (block_no b) ∷ []) budget image.new result }
+// Blanks block b.
+pub fn put_blank(writer: &mut Writer, s: Sector, b: Block) -> Result<(), Cut>
+    requires s_bound { sector_no s < sectors_of writer.old.geometry }
+    requires b_bound { block_no b < blocks_of writer.old.geometry }
+    ensures { Did writer.old (blank_store (sector_no s) (block_no b) ∷ []) writer.new result }
 {
-    put(image, g, s, b, Kind::Blank, bytes(), budget)
+    writer.put(s, b, Kind::Blank, bytes())
 }
 
 // The same where the test holds.
-pub fn put_blank_if(
-    image: &mut [u8],
-    g: Geometry,
-    s: Sector,
-    b: Block,
-    test: bool,
-    budget: Budget,
-) -> Budget
-    requires backs { Backs g image.old }
-    requires s_bound { sector_no s < sectors_of g }
-    requires b_bound { block_no b < blocks_of g }
-    ensures { Did g image.old (blank_if test (sector_no s) (block_no b)) budget image.new result }
+pub fn put_blank_if(writer: &mut Writer, s: Sector, b: Block, test: bool) -> Result<(), Cut>
+    requires s_bound { sector_no s < sectors_of writer.old.geometry }
+    requires b_bound { block_no b < blocks_of writer.old.geometry }
+    ensures { Did writer.old (blank_if test (sector_no s) (block_no b)) writer.new result }
 {
     if test {
-        return put_blank(image, g, s, b, budget);
+        return put_blank(writer, s, b);
     }
-    budget
+    Ok(())
 }

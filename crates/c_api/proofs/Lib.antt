@@ -1,3 +1,2 @@
--- What the proofs of the functions share.
-mod Telling
+-- That no call that stores tells a length, whatever it answers.
 mod NoLength

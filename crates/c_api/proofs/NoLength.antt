@@ -12,7 +12,7 @@ use Rattle.rules.specs.Look.{need_of}
 use Rattle.rules.specs.Reading.{Entry}
 use Rattle.rules.specs.Meaning.{State, at_rest, not_reopened, mid_turn, views_of, state_of, history, lookup}
 use Rattle.rules.specs.Stores.{Store, least_turns, change, value_entry, deletion_entry}
-use Rattle.rules.specs.Calls.{Refusal, geometry, no_store, unfinished, reserved, empty, too_long, no_room, absent, length_told, Due, refuse, make, Answer, answer, answer_numbers, in_state, in_rest, at_sizes, format_on, mount_on, change_on, write_on, delete_on, format_due, mount_due, write_due, delete_due}
+use Rattle.rules.specs.Calls.{Refusal, geometry, no_store, unfinished, reserved, empty, too_long, no_room, absent, length_told, Due, refuse, make, answer, answer_numbers, in_state, in_rest, at_sizes, format_on, mount_on, change_on, write_on, delete_on, format_due, mount_due, write_due, delete_due}
 use Rattle.rules.proofs.Basics.Notation.{by-test}
 
 -- what is due tells no length, whatever the allowance

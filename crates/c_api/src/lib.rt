@@ -2,10 +2,10 @@
 // The calls as C sees them: `include/gustorchard.h` declares them. A slice is a pointer and a length there.
 ghost use Rattle.std.specs.Prelude.{◌≡◌, length, set};
 ghost use Rattle.rules.specs.Calls as rule;
-ghost use Rattle.answer.specs.Answer.{reply_numbers_of, answer_numbers_of};
-ghost use Rattle.c_api.specs.Told.{Tells, told};
+ghost use Rattle.answer.specs.Answer.{numbers_of};
+ghost use Rattle.c_api.specs.Told.{Tells};
 
-use answer::{Answer, Reply};
+use answer::Numbers;
 
 // A place that a short array lacks is left out.
 fn put(numbers: &mut [u64], place: usize, n: u64)
@@ -16,29 +16,15 @@ fn put(numbers: &mut [u64], place: usize, n: u64)
     }
 }
 
-fn tell(numbers: &mut [u64], stores: u64, turns: u64, length: u64)
-    ensures { numbers.new ≡ told stores turns length numbers.old }
+// Gives back the number of an answer, and tells its other numbers in the lent array.
+#[tactic(auto, unfolding(crate::specs::Told::told))]
+fn tell(told: Numbers, numbers: &mut [u64]) -> u32
+    ensures { Tells (numbers_of told) numbers.old numbers.new result }
 {
-    put(numbers, 0, stores);
-    put(numbers, 1, turns);
-    put(numbers, 2, length);
-}
-
-// What a call that stores answers: it tells no length.
-fn tell_answer(answer: Answer, numbers: &mut [u64]) -> u32
-    requires { (answer_numbers_of answer).length ≡ 0 }
-    ensures { Tells (answer_numbers_of answer) numbers.old numbers.new result }
-{
-    tell(numbers, answer.stores() as u64, answer.turns() as u64, 0);
-    answer.number()
-}
-
-// What a read answers: it tells no stores and no turns.
-fn tell_reply(reply: Reply, numbers: &mut [u64]) -> u32
-    ensures { Tells (reply_numbers_of reply) numbers.old numbers.new result }
-{
-    tell(numbers, 0, 0, reply.length() as u64);
-    reply.number()
+    put(numbers, 0, told.stores as u64);
+    put(numbers, 1, told.turns as u64);
+    put(numbers, 2, told.length as u64);
+    told.number
 }
 
 // Makes an empty store of whatever bytes the image holds.
@@ -53,9 +39,8 @@ pub extern "C" fn gust_format(
     ensures answer { Tells (rule.answer_numbers (rule.answer (rule.format_due sector_size count image.old) allowance)) numbers.old numbers.new result }
     ensures image { image.new ≡ rule.leaves sector_size (rule.format_due sector_size count image.old) allowance image.old }
 {
-    let outcome = store::format(image, sector_size, count, allowance);
-    let answer = outcome.answer;
-    tell_answer(answer, numbers)
+    let made = store::format(image, sector_size, count, allowance);
+    tell(Numbers::from(made), numbers)
 }
 
 // Brings a store to rest: makes what a cut left of a turn.
@@ -70,9 +55,8 @@ pub extern "C" fn gust_mount(
     ensures answer { Tells (rule.answer_numbers (rule.answer (rule.mount_due sector_size count image.old) allowance)) numbers.old numbers.new result }
     ensures image { image.new ≡ rule.leaves sector_size (rule.mount_due sector_size count image.old) allowance image.old }
 {
-    let outcome = store::mount(image, sector_size, count, allowance);
-    let answer = outcome.answer;
-    tell_answer(answer, numbers)
+    let made = store::mount(image, sector_size, count, allowance);
+    tell(Numbers::from(made), numbers)
 }
 
 // Copies the value of an ID into the first bytes of the buffer, and leaves the rest of it. A refused read leaves all of it.
@@ -90,7 +74,7 @@ pub extern "C" fn gust_read(
     ensures image { image.exit.now ≡ image.entry.now }
 {
     let reply = store::read(image, sector_size, count, id, buffer);
-    tell_reply(reply, numbers)
+    tell(Numbers::from(reply), numbers)
 }
 
 // Stores the value of an ID: the least number of turns that make room for it, and then the entry.
@@ -108,9 +92,8 @@ pub extern "C" fn gust_write(
     ensures image { image.new ≡ rule.leaves sector_size (rule.write_due sector_size count image.old id value.now) allowance image.old }
     ensures value { value.exit.now ≡ value.entry.now }
 {
-    let outcome = store::write(image, sector_size, count, id, value, allowance);
-    let answer = outcome.answer;
-    tell_answer(answer, numbers)
+    let made = store::write(image, sector_size, count, id, value, allowance);
+    tell(Numbers::from(made), numbers)
 }
 
 // Stores that an ID has no value, where it has one.
@@ -126,7 +109,6 @@ pub extern "C" fn gust_delete(
     ensures answer { Tells (rule.answer_numbers (rule.answer (rule.delete_due sector_size count image.old id) allowance)) numbers.old numbers.new result }
     ensures image { image.new ≡ rule.leaves sector_size (rule.delete_due sector_size count image.old id) allowance image.old }
 {
-    let outcome = store::delete(image, sector_size, count, id, allowance);
-    let answer = outcome.answer;
-    tell_answer(answer, numbers)
+    let made = store::delete(image, sector_size, count, id, allowance);
+    tell(Numbers::from(made), numbers)
 }

@@ -9,77 +9,85 @@ use Prim.Native.Nat.{ℕ, ◌+◌, ◌^◌, ◌≤◌, ◌<◌}
 use native.Mathlib.Omega.{arith}
 use lib.Dec.{leb}
 use borrow.Author.Tests.{le-leb, leb-true, leb-false}
+use Rattle.std.specs.Prelude.{Result, Ok, Err, is_err}
 use Rattle.rules.specs.Notation.{Each, concat}
-use Rattle.rules.specs.Ground.{Image}
 use Rattle.rules.specs.Look as rule
 use Rattle.rules.specs.Look.{start, need_of, is_done, is_within}
-use Rattle.rules.specs.Reading.{Entry, after_all}
-use Rattle.rules.specs.Meaning.{at_rest, Is, state_of, views_of, view_at, next, all_but, lookup, needs_of}
+use Rattle.rules.specs.Reading.{Entry, View, after_all}
+use Rattle.rules.specs.Meaning.{at_rest, Is, state_of, view_at, next, all_but, lookup, needs_of}
 use Rattle.rules.proofs.Blocks.Counting.{needs-all}
 use Rattle.rules.proofs.Crash.Effects.{short-value}
 use Rattle.rules.specs.Stores.{append, turns, moved, least_turns, change}
 use Rattle.rules.proofs.Ring.History.{entries_each}
 use Rattle.rules.proofs.Ring.States.{state-is}
-use Rattle.rules.proofs.Blocks.OnBytes.{Lies, inside-lie, image-of-bytes}
+use Rattle.rules.proofs.Blocks.OnBytes.{Lies, inside-lie}
 use Rattle.rules.proofs.Crash.Changing.{turns_go}
 use Rattle.layout.specs.declared.Geometry.{Geometry}
-use Rattle.layout.specs.Geometry.{blocks_of, sectors_of, Backs}
+use Rattle.layout.specs.Sizes.{Sound}
+use Rattle.layout.specs.Geometry.{blocks_of, sectors_of}
 use Rattle.layout.specs.Numbers.{sector_no}
 use Rattle.entry.specs.declared.Head.{Head}
 use Rattle.entry.specs.declared.Head.TheVariants as head
 use Rattle.entry.specs.Answer.{scan_of, length_of, limit_of}
 use Rattle.image.specs.declared.active.Active.{Active}
 use Rattle.image.specs.Answer.{active_as, views_in, Carries}
-use Rattle.live.specs.Fit.{fit_as}
+use Rattle.layout.specs.Options.{option_as}
 use Rattle.image.proofs.Sectors.{views-count}
 use Rattle.image.proofs.Laws.{rest-inside}
 use Rattle.live.proofs.FitLaws.{room_after}
-use Rattle.budget.specs.declared.Budget.{Budget}
-use Rattle.budget.specs.Budget.{Did, Consistent}
-use Rattle.budget.proofs.Laws.{did-whole, did-and-then, did-and-then-cut}
-use Rattle.append.proofs.Appending.{blocks_in}
+use Rattle.budget.specs.declared.Cut.{Cut}
+use Rattle.budget.specs.declared.Writer.{Writer}
+use Rattle.budget.specs.Budget.{held, shown, Did}
+use Rattle.budget.proofs.Laws.{typed, whole_image, did-whole, did-shown, did-and-then, did-and-then-cut}
 use Rattle.change.specs.Ready.{Changes}
 
 -- ---- the turns, and then the entry
 
-module _ (g : Geometry) (bytes : List ℕ) (w t : ℕ) (k : Backs g bytes) (typed : Each (λ b. b < 256) bytes)
-    (rest : state_of (views_in g bytes) ≡ some (at_rest w)) where
-  turns-lie : Each (Lies (blocks_of g) (sectors_of g)) (turns (blocks_of g) (sectors_of g) t w (blocks_in g bytes))
+module _ (writer : Writer) (w t : ℕ) (rest : state_of (shown writer) ≡ some (at_rest w)) where
+  abbrev B : ℕ
+  B = blocks_of writer.geometry
+
+  abbrev S : ℕ
+  S = sectors_of writer.geometry
+
+  turns-lie : Each (Lies B S) (turns B S t w (held writer))
   unfolding Is
   turns-lie =
-      let ring : List (List Entry) = entries_each (all_but (next (sectors_of g) w) (views_in g bytes)) in
+      let ring : List (List Entry) = entries_each (all_but (next S w) (shown writer)) in
+      let sound : Sound (blocks_of writer.geometry) (sectors_of writer.geometry) = writer.geometry.sound in
       inside-lie
-      (turns_go (blocks_of g) (sectors_of g) k.sound.blocks_from k.sound.blocks_to k.sound.sectors_from (λ id. lookup id (concat ring)) t (blocks_in g bytes)
+      (turns_go B S sound.blocks_from sound.blocks_to sound.sectors_from (λ id. lookup id (concat ring)) t (held writer)
       (λ id. refl)
-      (image-of-bytes (blocks_of g) (sectors_of g) bytes typed k.sized)
-      (rest-inside g bytes w rest)
-      (record { sized = views-count g bytes; is = state-is (views_in g bytes) (at_rest w) rest; held = refl })
+      (whole_image writer)
+      (rest-inside writer.geometry writer.image.now w rest)
+      (record { sized = views-count writer.geometry writer.image.now; is = state-is (shown writer) (at_rest w) rest; held = refl })
       ).inside
 
-  module _ {middle : List ℕ} {budget left : Budget} (did : Did g bytes (turns (blocks_of g) (sectors_of g) t w (blocks_in g bytes)) budget middle left)
-      (uncut : left.cut ≡ false) {working : ℕ} (here : working ≡ moved (sectors_of g) t w) where
-    pub room-left : {active : Active} (need limit : ℕ) → least_turns need limit w (views_in g bytes) ≡ some t
-        → active ≡ active_as working (view_at (views_in g middle) working) → (scan_of active.scan).needs + need ≤ limit
+  module _ {T : Type 0} {middle : Writer} {x : T} (did : Did writer (turns B S t w (held writer)) middle (Ok x)) {working : ℕ} (here : working ≡ moved S t w) where
+    pub room-left : {active : Active} (need limit : ℕ) → least_turns need limit w (shown writer) ≡ some t
+        → active ≡ active_as working (view_at (shown middle) working) → (scan_of active.scan).needs + need ≤ limit
     room-left need limit least known =
-        let room : (after_all start (view_at (views_in g middle) (moved (sectors_of g) t w)).entries).needs + need ≤ limit =
-        subst (λ (im : Image). (after_all start (view_at (views_of (blocks_of g) im) (moved (sectors_of g) t w)).entries).needs + need ≤ limit)
-        (sym (did-whole did k turns-lie uncut))
-        (room_after g bytes need limit w (ap fit_as least) k typed rest) in
+        let room : (after_all start (view_at (shown middle) (moved S t w)).entries).needs + need ≤ limit =
+        subst (λ (vs : List View). (after_all start (view_at vs (moved S t w)).entries).needs + need ≤ limit)
+        (sym (did-shown did (did-whole did turns-lie refl)))
+        (room_after writer.geometry writer.image.now need limit w (ap option_as least) writer.backs (typed writer) rest) in
         rw (known, here) room
 
-    pub change-did : (e : Entry) {after : List ℕ} {r : Budget} → Did g middle (append (blocks_of g) working e (blocks_in g middle)) left after r
-        → Did g bytes (change (blocks_of g) (sectors_of g) t w e (blocks_in g bytes)) budget after r
+    pub change-did : {U : Type 0} (e : Entry) {after : Writer} {r : Result U Cut} → Did middle (append (blocks_of middle.geometry) working e (held middle)) after r
+        → Did writer (change B S t w e (held writer)) after r
     unfolding change
     change-did e {after} {r} appended =
-        did-and-then (turns (blocks_of g) (sectors_of g) t w) (append (blocks_of g) (moved (sectors_of g) t w) e) k turns-lie did uncut
-        (subst (λ (s : ℕ). Did g middle (append (blocks_of g) s e (blocks_in g middle)) left after r) here appended)
+        did-and-then (turns B S t w) (λ (g : Geometry). append (blocks_of g) (moved S t w) e) turns-lie did
+        (subst (λ (s : ℕ). Did middle (append (blocks_of middle.geometry) s e (held middle)) after r) here appended)
 
-pub change-cut : (g : Geometry) (bytes : List ℕ) (w t : ℕ) (e : Entry) {middle : List ℕ} {budget left : Budget} → Consistent budget
-    → Did g bytes (turns (blocks_of g) (sectors_of g) t w (blocks_in g bytes)) budget middle left → left.cut ≡ true
-    → Did g bytes (change (blocks_of g) (sectors_of g) t w e (blocks_in g bytes)) budget middle left
+pub change-cut : {T U : Type 0} (writer : Writer) (w t : ℕ) (e : Entry) {middle : Writer} {cut : Cut} {r : Result U Cut}
+    → Did {T = T} writer (turns (blocks_of writer.geometry) (sectors_of writer.geometry) t w (held writer)) middle (Err cut) → is_err r ≡ true
+    → Did writer (change (blocks_of writer.geometry) (sectors_of writer.geometry) t w e (held writer)) middle r
 unfolding change
-change-cut g bytes w t e consistent did cut =
-    did-and-then-cut (turns (blocks_of g) (sectors_of g) t w) (append (blocks_of g) (moved (sectors_of g) t w) e) (blocks_in g bytes) consistent did cut
+change-cut writer w t e did cut =
+    let B : ℕ = blocks_of writer.geometry in
+    let S : ℕ = sectors_of writer.geometry in
+    did-and-then-cut (turns B S t w) (append B (moved S t w) e) (held writer) did cut
 
 -- ---- the limit of an entry that is no done
 

@@ -8,8 +8,8 @@ use Rattle.console.specs.declared.Command.TheVariants as command
 abbrev pub largest : ℕ
 largest = 65536
 
-unfoldable pub due_of : (size count : ℕ) → Command → (value image : List ℕ) → rule.Due
-due_of size count command.Format value image = rule.format_due size count image
-due_of size count command.Mount value image = rule.mount_due size count image
-due_of size count (command.Write id) value image = rule.write_due size count image id value
-due_of size count (command.Delete id) value image = rule.delete_due size count image id
+unfoldable pub due_of : (size count : ℕ) → Command → (image : List ℕ) → rule.Due
+due_of size count command.Format image = rule.format_due size count image
+due_of size count command.Mount image = rule.mount_due size count image
+due_of size count (command.Write id value) image = rule.write_due size count image id value.now
+due_of size count (command.Delete id) image = rule.delete_due size count image id

@@ -6,20 +6,20 @@ pub mod words;
 ghost use Rattle.std.specs.Prelude.{◌≡◌, ◌≤◌, min, length, IfOk};
 ghost use Rattle.rules.specs.Calls as rule;
 ghost use Rattle.budget.specs.Budget.{last_of};
-ghost use Rattle.budget.specs.declared.Last.TheVariants as last;
 ghost use Rattle.answer.specs.Answer.{reply_numbers_of, Leaves};
 ghost use Rattle.console.specs.Due.{due_of, largest};
 
-use answer::{Outcome, Reply};
-use budget::Last;
+use answer::{Numbers, Outcome, Refusal, Reply};
+use budget::Store;
 use std::io;
+pub use words::Told;
 
-// The commands that store, with the ID. The value of a write stands beside it.
+// The commands that store: a write with its ID and value, a delete with its ID.
 #[derive(Clone, Copy)]
-pub enum Command {
+pub enum Command<'a> {
     Format,
     Mount,
-    Write(u32),
+    Write(u32, &'a [u8]),
     Delete(u32),
 }
 
@@ -32,26 +32,18 @@ pub fn call(
     image: &mut [u8],
     sector_size: usize,
     count: usize,
-    command: Command,
-    value: &[u8],
+    command: Command<'_>,
     allowance: u32,
-) -> Outcome
-    ensures outcome { Leaves sector_size (due_of sector_size count command value.now image.old) allowance image.old image.new result }
-    ensures value { value.exit.now ≡ value.entry.now }
+) -> Result<Outcome, Refusal>
+    ensures outcome { Leaves sector_size (due_of sector_size count command.entry image.old) allowance image.old image.new result }
+    ensures command { command.exit ≡ command.entry }
 {
     match command {
         Command::Format => store::format(image, sector_size, count, allowance),
         Command::Mount => store::mount(image, sector_size, count, allowance),
-        Command::Write(id) => store::write(image, sector_size, count, id, value, allowance),
+        Command::Write(id, value) => store::write(image, sector_size, count, id, value, allowance),
         Command::Delete(id) => store::delete(image, sector_size, count, id, allowance),
     }
-}
-
-// Zeros, as many as the largest image has bytes. Free: what stands there.
-fn large_buffer() -> [u8; LARGEST]
-    ensures { 65536 ≡ length result }
-{
-    [0; LARGEST]
 }
 
 // The k-th store of the command: the last one of the command on a copy of the image, with an allowance of k.
@@ -59,17 +51,18 @@ fn kth_store(
     before: &[u8],
     sector_size: usize,
     count: usize,
-    command: Command,
-    value: &[u8],
+    command: Command<'_>,
     k: u32,
-) -> Last
+) -> Option<Store>
     requires { length before.now ≤ largest }
-    ensures { result ≡ last_of last.Nothing (rule.made (due_of sector_size count command value.now before.now) k) }
+    ensures { result ≡ last_of None (rule.made (due_of sector_size count command.entry before.now) k) }
 {
-    let mut space = large_buffer();
+    let mut space = part::zeros::<LARGEST>();
     let size = part::copied(before, &mut space);
-    let outcome = call(&mut space[..size], sector_size, count, command, value, k);
-    outcome.last
+    match call(&mut space[..size], sector_size, count, command, k) {
+        Ok(outcome) => outcome.last,
+        Err(_) => None,
+    }
 }
 
 // A line for each of the first so many stores, by the store's own account of them.
@@ -78,15 +71,15 @@ fn print_trace(
     before: &[u8],
     sector_size: usize,
     count: usize,
-    command: Command,
-    value: &[u8],
+    command: Command<'_>,
     stores: u32,
 ) -> io::Result<()>
     requires { length before.now ≤ largest }
 {
     for k in 1..=stores {
-        let last = kth_store(before, sector_size, count, command, value, k);
-        words::traced(rt, last)?;
+        if let Some(store) = kth_store(before, sector_size, count, command, k) {
+            println!(rt; "{store}")?;
+        }
     }
     Ok(())
 }
@@ -98,29 +91,26 @@ pub fn run(
     image: &mut [u8],
     sector_size: usize,
     count: usize,
-    command: Command,
-    value: &[u8],
+    command: Command<'_>,
     allowance: u32,
-) -> io::Result<Outcome>
-    ensures outcome { IfOk result (λ outcome. Leaves sector_size (due_of sector_size count command value.now image.old) allowance image.old image.new outcome) }
-    ensures image { image.new ≡ rule.leaves sector_size (due_of sector_size count command value.now image.old) allowance image.old }
-    ensures value { value.exit.now ≡ value.entry.now }
+) -> io::Result<Result<Outcome, Refusal>>
+    ensures outcome { IfOk result (λ made. Leaves sector_size (due_of sector_size count command.entry image.old) allowance image.old image.new made) }
+    ensures image { image.new ≡ rule.leaves sector_size (due_of sector_size count command.entry image.old) allowance image.old }
+    ensures command { command.exit ≡ command.entry }
 {
-    let mut space = large_buffer();
+    let mut space = part::zeros::<LARGEST>();
     let size = part::copied(image, &mut space);
-    let outcome = call(image, sector_size, count, command, value, allowance);
-    let answer = outcome.answer;
-    words::told(rt, answer)?;
+    let made = call(image, sector_size, count, command, allowance);
+    println!(rt; "{}", Told(made))?;
     print_trace(
         rt,
         &space[..size],
         sector_size,
         count,
         command,
-        value,
-        answer.stores(),
+        Numbers::from(made).stores,
     )?;
-    Ok(outcome)
+    Ok(made)
 }
 
 // Reads an ID into a buffer of so many bytes, or of the largest, which any value fits, and prints the value or the refusal.
@@ -135,7 +125,7 @@ pub fn show(
     ensures answer { IfOk result (λ reply. reply_numbers_of reply ≡ rule.reply_numbers (rule.read sector_size count image.now id (min room largest))) }
     ensures image { image.exit.now ≡ image.entry.now }
 {
-    let mut space = large_buffer();
+    let mut space = part::zeros::<LARGEST>();
     let buffer: &mut [u8] = &mut space;
     let size = part::least(room, buffer);
     let reply = store::read(image, sector_size, count, id, &mut buffer[..size]);

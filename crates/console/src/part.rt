@@ -2,13 +2,19 @@
 ghost use Rattle.std.specs.Prelude.{◌≡◌, ◌++◌, min, length, take, drop};
 ghost use Rattle.console.specs.Counts.{IsPrefixLen};
 
+// Zeros, as many as are asked for, whose length is known to proofs.
+pub(crate) fn zeros<const N: usize>() -> [u8; N]
+    ensures { length result ≡ N }
+{
+    [0; N]
+}
+
 // A number of the slice's bytes: the one given, or all of them where it is larger.
 pub fn least(size: usize, bytes: &[u8]) -> usize
     ensures counts { IsPrefixLen result bytes.now }
     ensures least { result ≡ min size (length bytes.now) }
 {
-    let most = bytes.len();
-    if size < most { size } else { most }
+    size.min(bytes.len())
 }
 
 // Copies as many bytes as fit, and answers how many.

@@ -1,148 +1,63 @@
-// The answers in words. What is printed is handed on.
-ghost use Rattle.std.specs.Prelude.{◌≡◌, length, IfOk};
-ghost use Rattle.console.specs.Counts.{IsPrefixLen};
+// The answers in words.
+ghost use Rattle.std.specs.Prelude.{◌≡◌, IfOk};
 
 use crate::part;
-use answer::{Answer, Refusal, Reply};
-use budget::{Kind, Last};
-use std::io;
+use answer::{Numbers, Outcome, Refusal, Reply};
+use std::{fmt, io};
 
-// Hex digits of the largest buffer of a read, 65,536 bytes.
+// Bytes of the largest buffer of a read, and their hex digits.
+const BYTES: usize = 65536;
+
 const DIGITS: usize = 131072;
 
-// A refusal's name.
-fn print_name(rt: &impl Print, refusal: Refusal) -> io::Result<()> {
-    match refusal {
-        Refusal::Geometry => print!(rt; "geometry"),
-        Refusal::NoStore => print!(rt; "no store"),
-        Refusal::Unfinished => print!(rt; "unfinished"),
-        Refusal::Reserved => print!(rt; "reserved"),
-        Refusal::Empty => print!(rt; "empty"),
-        Refusal::TooLong => print!(rt; "too long"),
-        Refusal::NoRoom => print!(rt; "no room"),
-        Refusal::Absent => print!(rt; "absent"),
-        Refusal::BadData => print!(rt; "bad data"),
-        Refusal::ShortBuffer(_) => print!(rt; "short buffer"),
+// "refused NUMBER NAME"
+#[derive(Clone, Copy)]
+struct Refused(Refusal);
+
+impl fmt::Display for Refused {
+    fn fmt<W: fmt::Write>(&self, f: &mut fmt::Formatter<W>) -> fmt::Result {
+        let refusal = self.0;
+        let number = Numbers::from(refusal).number;
+        write!(f, "refused {number} {refusal}")
     }
 }
 
-// "refused NUMBER NAME", and no line end.
-fn print_refusal(rt: &impl Print, number: u32, refusal: Refusal) -> io::Result<()> {
-    print!(rt; "refused {number} ")?;
-    print_name(rt, refusal)
-}
+// What a call that stores answered.
+#[derive(Clone, Copy)]
+pub struct Told(pub Result<Outcome, Refusal>);
 
-fn print_stores(rt: &impl Print, stores: u32, turns: u32) -> io::Result<()> {
-    print!(rt; "stores {stores} turns {turns}")
-}
-
-// The first line of what a call that stores answered.
-fn print_answer(rt: &impl Print, answer: Answer) -> io::Result<()> {
-    match answer {
-        Answer::Done(stores, turns) => {
-            print_stores(rt, stores, turns)?;
-        }
-        Answer::Cut(stores) => {
-            print!(rt; "cut ")?;
-            print_stores(rt, stores, 0)?;
-        }
-        Answer::Refused(refusal) => {
-            print_refusal(rt, answer.number(), refusal)?;
+impl fmt::Display for Told {
+    fn fmt<W: fmt::Write>(&self, f: &mut fmt::Formatter<W>) -> fmt::Result {
+        match self.0 {
+            Ok(outcome) => write!(f, "{}", outcome.answer),
+            Err(refusal) => write!(f, "{}", Refused(refusal)),
         }
     }
-    println!(rt)
 }
 
-pub fn told(rt: &impl Print, answer: Answer) -> io::Result<Answer>
-    ensures { IfOk result (λ told. told ≡ answer) }
-{
-    print_answer(rt, answer)?;
-    Ok(answer)
-}
-
-fn print_kind(rt: &impl Print, kind: Kind) -> io::Result<()> {
-    match kind {
-        Kind::Lead => print!(rt; "lead"),
-        Kind::Close => print!(rt; "close"),
-        Kind::Done => print!(rt; "done"),
-        Kind::Value => print!(rt; "value"),
-        Kind::Deletion => print!(rt; "deletion"),
-        Kind::Data => print!(rt; "data"),
-        Kind::Blank => print!(rt; "blank"),
-    }
-}
-
-// "SECTOR BLOCK KIND"
-fn print_store(rt: &impl Print, last: Last) -> io::Result<()> {
-    let Last::Store(s, b, kind) = last else {
-        return Ok(());
-    };
-    print!(rt; "{} {} ", s.number(), b.number())?;
-    print_kind(rt, kind)?;
-    println!(rt)
-}
-
-pub fn traced(rt: &impl Print, last: Last) -> io::Result<Last>
-    ensures { IfOk result (λ traced. traced ≡ last) }
-{
-    print_store(rt, last)?;
-    Ok(last)
-}
-
-// A hex digit.
-fn digit(n: u8) -> u8 {
-    let low = n % 16;
-    if low < 10 { low + 48 } else { low + 87 }
-}
-
-// Room for them. Free: what stands there.
-fn digits() -> [u8; DIGITS]
-    ensures { 131072 ≡ length result }
-{
-    [0; DIGITS]
-}
-
-// Puts the hex digits of the bytes at the start of the text, as far as they fit, and answers how many there are. Free: the text, and
-// how many of its places they take.
-fn spelled(bytes: &[u8], text: &mut [u8]) -> usize
-    ensures { IsPrefixLen result text.new }
-{
-    let mut end = 0;
-    for byte in bytes {
-        if text.len() - end < 2 {
-            break;
-        }
-        text[end] = digit(*byte / 16);
-        text[end + 1] = digit(*byte);
-        end += 2;
-    }
-    end
-}
-
+// Prints bytes in hex, as far as they fit. All digits go out at once: a Display, whose digits go through a small buffer, takes ten times
+// as long for 65,536 bytes.
 fn print_bytes(rt: &impl Print, bytes: &[u8]) -> io::Result<()> {
-    let mut text = digits();
-    let end = spelled(bytes, &mut text);
-    rt.write_all(&text[..end])
+    let mut text = part::zeros::<DIGITS>();
+    let size = part::least(BYTES, bytes);
+    let digits = &mut text[..2 * size];
+    let _ = hex::encode_to_slice(&bytes[..size], digits);
+    rt.write_all(digits)
 }
 
 // What a read answered. The buffer begins with the value, if there is one.
 fn print_reply(rt: &impl Print, reply: Reply, buffer: &[u8]) -> io::Result<()> {
     match reply {
-        Reply::Value(length) => {
+        Ok(length) => {
             print!(rt; "value {length} ")?;
-            let size = part::least(length, buffer);
-            print_bytes(rt, &buffer[..size])?;
+            print_bytes(rt, &buffer[..part::least(length, buffer)])?;
+            println!(rt)
         }
-        Reply::Refused(refusal) => {
-            print_refusal(rt, reply.number(), refusal)?;
-            if let Refusal::ShortBuffer(length) = refusal {
-                print!(rt; " {length}")?;
-            }
-        }
+        Err(refusal) => println!(rt; "{}", Refused(refusal)),
     }
-    println!(rt)
 }
 
+// The reply is handed on.
 pub fn replied(rt: &impl Print, reply: Reply, buffer: &[u8]) -> io::Result<Reply>
     ensures { IfOk result (λ replied. replied ≡ reply) }
 {

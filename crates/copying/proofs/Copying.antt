@@ -9,6 +9,7 @@ use lib.Dec.{leb}
 use lib.ListN.{length, get_or, take, drop}
 use lib.Seq.{drop-drop, take_all, get_or-take, get_or-drop, ext_get_or}
 use borrow.Author.Tests.{le-ltb, lt-ltb, leb-true, leb-false}
+use Rattle.std.specs.Prelude.{Result}
 use Rattle.rules.specs.Notation.{Each}
 use Rattle.rules.specs.Ground.{Block, Sector, Image, block_size, sector_of, block_at}
 use Rattle.rules.specs.Entry.{length_of, id_of, offset_of, small_value_block, long_value_block}
@@ -27,18 +28,16 @@ use Rattle.rules.proofs.Blocks.Data.{data-elsewhere}
 use Rattle.rules.proofs.Blocks.Stored.{copied-small, copied-long, value-head, small-fits, long-fits}
 use Rattle.rules.proofs.Format.Look.{need-blocks}
 use Rattle.rules.proofs.Blocks.OnImage.{view-at, proper-view, apply-other}
-use Rattle.rules.proofs.Blocks.OnBytes.{image-of-bytes, Lies}
+use Rattle.rules.proofs.Blocks.OnBytes.{Lies}
 use Rattle.rules.proofs.Blocks.Formatted.{length-image}
-use Rattle.layout.specs.declared.Geometry.{Geometry}
-use Rattle.layout.specs.Geometry.{blocks_of, sectors_of, Backs}
+use Rattle.layout.specs.Geometry.{blocks_of, sectors_of}
 use Rattle.layout.proofs.Laws.{block-sized}
-use Rattle.image.specs.Answer.{views_in}
 use Rattle.image.specs.Answer.{no_entry}
-use Rattle.budget.specs.declared.Budget.{Budget}
-use Rattle.budget.specs.Budget.{Did}
+use Rattle.budget.specs.declared.Cut.{Cut}
+use Rattle.budget.specs.declared.Writer.{Writer}
+use Rattle.budget.specs.Budget.{held, shown, Did}
 use Rattle.copying.specs.Copy.{entry_in, first_of, copy_of}
-use Rattle.budget.proofs.Laws.{did-image}
-use Rattle.append.proofs.Appending.{blocks_in}
+use Rattle.budget.proofs.Laws.{did-image, whole_image}
 
 -- What the block of a value's entry tells: its head, its data blocks, and its bytes at another place.
 pub record Copied (B : ℕ) (sector : Sector) (block : Block) (e : Entry) : Type 0 where
@@ -168,53 +167,55 @@ module _ (B : ℕ) (bytes : List ℕ) (sized : length bytes ≡ B * block_size) 
 
 -- ---- in an image
 
-module _ (g : Geometry) (image : List ℕ) (s n : ℕ) (k : Backs g image) (typed : Each (λ b. b < 256) image) (inside : s < sectors_of g)
-    (here : n < length (view_at (views_in g image) s).entries) (valued : is_value (entry_in g image s n).head ≡ true) where
-  pub copied-in : Copied (blocks_of g) (get_or (blocks_in g image) s []) (block_at (blocks_in g image) s (blocks_of g - 3 - n)) (entry_in g image s n)
+module _ (w : Writer) (s n : ℕ) (inside : s < sectors_of w.geometry)
+    (here : n < length (view_at (shown w) s).entries) (valued : is_value (entry_in (shown w) s n).head ≡ true) where
+  pub copied-in : Copied (blocks_of w.geometry) (get_or (held w) s []) (block_at (held w) s (blocks_of w.geometry - 3 - n)) (entry_in (shown w) s n)
   unfolding block_at view_of
   copied-in =
-      let B : ℕ = blocks_of g in
-      let S : ℕ = sectors_of g in
+      let B : ℕ = blocks_of w.geometry in
+      let S : ℕ = sectors_of w.geometry in
+      let image : List ℕ = w.image.now in
       let part : List ℕ = take (B * block_size) (drop (s * (B * block_size)) image) in
-      let enough : 8 ≤ B = k.sound.blocks_from in
-      let sized : length part ≡ B * block_size = length-sector-bytes B S image s inside k.sized in
-      let sector : get_or (blocks_in g image) s [] ≡ sector_of B part = sector-of-image B S image s inside in
-      let seen : view_at (views_in g image) s ≡ view_of B (sector_of B part) =
-      view-at B (blocks_in g image) s (omega (arith, length-image B S image)) ∙ ap (view_of B) sector in
-      let proper : IsProper (entry_in g image s n) = each_at (proper-view enough (image-of-bytes B S image typed k.sized) inside) n no_entry here in
+      let enough : 8 ≤ B = w.geometry.sound.blocks_from in
+      let sized : length part ≡ B * block_size = length-sector-bytes B S image s inside w.backs.sized in
+      let sector : get_or (held w) s [] ≡ sector_of B part = sector-of-image B S image s inside in
+      let seen : view_at (shown w) s ≡ view_of B (sector_of B part) =
+      view-at B (held w) s (omega (arith, length-image B S image)) ∙ ap (view_of B) sector in
+      let proper : IsProper (entry_in (shown w) s n) = each_at (proper-view enough (whole_image w) inside) n no_entry here in
       let there : n < length (view_of B (sector_of B part)).entries = subst (λ (v : View). n < length v.entries) seen here in
       let lies : LiesAt part (B - 3 - n) (get_or (sector_of B part) (B - 3 - n) []) (get_or (view_of B (sector_of B part)).entries n no_entry) =
       lies_at B _ part enough sized n no_entry there in
-      let read : LiesAt part (B - 3 - n) (get_or (sector_of B part) (B - 3 - n) []) (entry_in g image s n) =
+      let read : LiesAt part (B - 3 - n) (get_or (sector_of B part) (B - 3 - n) []) (entry_in (shown w) s n) =
       subst (λ (v : View). LiesAt part (B - 3 - n) (get_or (sector_of B part) (B - 3 - n) []) (get_or v.entries n no_entry)) (sym seen) lies in
       let low : B - 3 - n < B = omega arith in
-      subst (λ (x : Sector). Copied B x (get_or x (B - 3 - n) []) (entry_in g image s n)) (sym sector) (copied_at B part sized (B - 3 - n) proper read valued low)
+      subst (λ (x : Sector). Copied B x (get_or x (B - 3 - n) []) (entry_in (shown w) s n)) (sym sector) (copied_at B part sized (B - 3 - n) proper read valued low)
 
 -- ---- its blocks, while another sector is written
 
-module _ (g : Geometry) (image : List ℕ) (s source count : ℕ) (k : Backs g image) (here : s < sectors_of g) (inside : source + count ≤ blocks_of g) where
-  blocks-number : length (get_or (blocks_in g image) s []) ≡ blocks_of g
+module _ (w : Writer) (s source count : ℕ) (here : s < sectors_of w.geometry) (inside : source + count ≤ blocks_of w.geometry) where
+  blocks-number : length (get_or (held w) s []) ≡ blocks_of w.geometry
   unfolding sector_of
-  blocks-number = ap length (sector-of-image (blocks_of g) (sectors_of g) image s here) ∙ length-pieces (blocks_of g) block_size _
+  blocks-number =
+      ap length (sector-of-image (blocks_of w.geometry) (sectors_of w.geometry) w.image.now s here) ∙ length-pieces (blocks_of w.geometry) block_size _
 
-  pub source-count : length (take count (drop source (get_or (blocks_in g image) s []))) ≡ count
-  source-count = length_part count source (get_or (blocks_in g image) s []) (omega (arith, blocks-number))
+  pub source-count : length (take count (drop source (get_or (held w) s []))) ≡ count
+  source-count = length_part count source (get_or (held w) s []) (omega (arith, blocks-number))
 
-  pub source-block : (i : ℕ) → i < count → get_or (take count (drop source (get_or (blocks_in g image) s []))) i [] ≡ block_at (blocks_in g image) s (source + i)
+  pub source-block : (i : ℕ) → i < count → get_or (take count (drop source (get_or (held w) s []))) i [] ≡ block_at (held w) s (source + i)
   unfolding block_at
-  source-block i few = get_or-take count (drop source (get_or (blocks_in g image) s [])) i [] few ∙ get_or-drop source (get_or (blocks_in g image) s []) i []
+  source-block i few = get_or-take count (drop source (get_or (held w) s [])) i [] few ∙ get_or-drop source (get_or (held w) s []) i []
 
-  pub source-sized : Each (λ (b : Block). length b ≡ block_size) (take count (drop source (get_or (blocks_in g image) s [])))
+  pub source-sized : Each (λ (b : Block). length b ≡ block_size) (take count (drop source (get_or (held w) s [])))
   source-sized =
-      at_each (λ (b : Block). length b ≡ block_size) [] (take count (drop source (get_or (blocks_in g image) s [])))
+      at_each (λ (b : Block). length b ≡ block_size) [] (take count (drop source (get_or (held w) s [])))
       (λ i h.
       let few : i < count = omega (arith, source-count) in
-      ap length (source-block i few) ∙ block-sized g image s (source + i) k here (omega arith))
+      ap length (source-block i few) ∙ block-sized w.geometry w.image.now s (source + i) w.backs here (omega arith))
 
 -- data blocks stored in one sector leave the others
-pub source_stays : {g : Geometry} {before after : List ℕ} {budget r : Budget} (s b t : ℕ) (blocks : List Block) → Backs g before → (t ≡ s → ⊥)
-    → Each (Lies (blocks_of g) (sectors_of g)) (data_stores s b blocks) → Did g before (data_stores s b blocks) budget after r
-    → get_or (blocks_in g after) t [] ≡ get_or (blocks_in g before) t []
-source_stays {g} {before} {budget = budget} s b t blocks k other lie did =
-    ap (λ (im : Image). get_or im t []) (did-image did k lie)
-    ∙ apply-other (blocks_in g before) t (each_take budget.left (data-elsewhere s b t blocks other))
+pub source_stays : {T : Type 0} {w w' : Writer} {r : Result T Cut} (s b t : ℕ) (blocks : List Block) → (t ≡ s → ⊥)
+    → Each (Lies (blocks_of w.geometry) (sectors_of w.geometry)) (data_stores s b blocks) → Did w (data_stores s b blocks) w' r
+    → get_or (held w') t [] ≡ get_or (held w) t []
+source_stays {w = w} s b t blocks other lie did =
+    ap (λ (im : Image). get_or im t []) (did-image did lie)
+    ∙ apply-other (held w) t (each_take w.budget.left (data-elsewhere s b t blocks other))

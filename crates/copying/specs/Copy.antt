@@ -2,16 +2,14 @@
 use Rattle.std.specs.Prelude.{List, ℕ, ◌*◌, ◌/◌, leb, get_or, take, drop, if◌then◌else◌}
 use Rattle.rules.specs.Ground.{Block, block_size}
 use Rattle.rules.specs.Entry.{length_of, id_of, offset_of, crc32_of, small_value_block, long_value_block}
-use Rattle.rules.specs.Reading.{Entry}
+use Rattle.rules.specs.Reading.{Entry, View}
 use Rattle.rules.specs.Meaning.{view_at}
-use Rattle.layout.specs.declared.Geometry.{Geometry}
-use Rattle.image.specs.Answer.{views_in}
 use Rattle.image.specs.Answer.{no_entry}
 use Rattle.copying.specs.declared.Source.{Source}
 
 -- entry n of sector s, 0 being the sector's oldest
-abbrev pub entry_in : Geometry → List ℕ → (s n : ℕ) → Entry
-entry_in g bytes s n = get_or (view_at (views_in g bytes) s).entries n no_entry
+abbrev pub entry_in : List View → (s n : ℕ) → Entry
+entry_in views s n = get_or (view_at views s).entries n no_entry
 
 -- the block at which the data of a value begins, if it has some
 unfoldable pub first_of : Block → ℕ

@@ -1,20 +1,18 @@
 #![tactic(auto)]
 // Copies a value to another sector, with its data blocks and CRC-32 as they lie.
-ghost use Rattle.std.specs.Prelude.{◌≡◌, true, false, [], ◌+◌, ◌≤◌, ◌<◌, length, get_or, take, drop};
-ghost use Rattle.rules.specs.Ground.{block_size, image_of, block_at};
+ghost use Rattle.std.specs.Prelude.{◌≡◌, true, [], ◌+◌, ◌≤◌, ◌<◌, length, get_or, take, drop, IfOk};
 ghost use Rattle.rules.specs.Look as rule;
 ghost use Rattle.rules.specs.Meaning.{view_at, is_value};
 ghost use Rattle.rules.specs.Stores as stores;
-ghost use Rattle.layout.specs.Numbers.{sector_no, block_no};
-ghost use Rattle.layout.specs.Geometry.{blocks_of, sectors_of, Backs};
+ghost use Rattle.layout.specs.Numbers.{sector_no};
+ghost use Rattle.layout.specs.Geometry.{blocks_of, sectors_of};
 ghost use Rattle.entry.specs.Answer.{scan_of};
-ghost use Rattle.image.specs.Answer.{views_in, Carries};
-ghost use Rattle.budget.specs.Budget.{Did, Consistent};
+ghost use Rattle.image.specs.Answer.{Carries};
+ghost use Rattle.budget.specs.Budget.{held, shown, Did};
 ghost use Rattle.append.specs.Append.{with_entry};
 ghost use Rattle.copying.specs.Copy.{entry_in, source_as, copy_of};
 
-use append::Appended;
-use budget::{Budget, Kind, put};
+use budget::{Cut, Kind, Writer};
 use entry::{Head, look};
 use image::active::Active;
 use layout::{Block, Geometry, Sector};
@@ -27,42 +25,30 @@ struct Source {
     first: usize,
 }
 
-// Block b of sector s, by value.
-fn block_of(image: &[u8], g: Geometry, s: Sector, b: Block) -> [u8; Geometry::BLOCK_SIZE]
-    requires backs { Backs g image.now }
-    requires s_bound { sector_no s < sectors_of g }
-    requires b_bound { block_no b < blocks_of g }
-    ensures { result ≡ block_at (image_of (blocks_of g) (sectors_of g) image.now) (sector_no s) (block_no b) }
-{
-    append::data_block(layout::block_at(image, g, s, b), 0)
-}
-
 // What the block of a value's entry tells of it.
-fn source_of(block: &[u8]) -> Source
-    requires { length block.now ≡ block_size }
+fn source_of(block: &[u8; Geometry::BLOCK_SIZE]) -> Source
     ensures { result ≡ source_as block.now }
 {
-    let id = look::id_in(block);
-    let length = look::length_in(block) as usize;
-    if length <= entry::SMALL {
-        return Source {
-            id: id,
-            length: length,
-            first: 0,
-        };
-    }
-    let offset = look::offset_in(block) as usize;
+    let length = usize::from(look::length_in(block));
+    let first = if length <= entry::SMALL {
+        0
+    } else {
+        look::offset_in(block) as usize / Geometry::BLOCK_SIZE
+    };
     Source {
-        id: id,
-        length: length,
-        first: offset / Geometry::BLOCK_SIZE,
+        id: look::id_in(block),
+        length,
+        first,
     }
 }
 
 // The block of a value's entry for another place.
-fn copied(block: &[u8], cycle: u8, data_end: usize) -> [u8; Geometry::BLOCK_SIZE]
-    requires block_len { length block.now ≡ block_size }
-    requires data_end_bound { data_end ≤ 4096 }
+fn copied(
+    block: &[u8; Geometry::BLOCK_SIZE],
+    cycle: u8,
+    data_end: usize,
+) -> [u8; Geometry::BLOCK_SIZE]
+    requires { data_end ≤ 4096 }
     ensures { result ≡ copy_of cycle data_end block.now }
 {
     let id = look::id_in(block);
@@ -77,79 +63,47 @@ fn copied(block: &[u8], cycle: u8, data_end: usize) -> [u8; Geometry::BLOCK_SIZE
     encode::long_value(cycle, id, length, offset as u32, check)
 }
 
-// The data blocks of a value in sector `from` are copied as they lie, upward from where the active sector's data ends.
-fn copy_data(
-    image: &mut [u8],
-    g: Geometry,
-    from: Sector,
-    source: Source,
-    active: Active,
-    budget: Budget,
-) -> Budget
-    requires backs { Backs g image.old }
-    requires from_bound { sector_no «from» < sectors_of g }
-    requires sector_bound { sector_no active.sector < sectors_of g }
+// Copies the data blocks of a value in sector `from` as they lie, upward from where the active sector's data ends. The
+// loop of append::put_data is the same over a lent value; one for both would take a closure that is handed the changing
+// image and that owes, at each block, that the stores so far left its sector alone: no plainer.
+fn copy_data(writer: &mut Writer, from: Sector, source: Source, active: Active) -> Result<(), Cut>
+    requires from_bound { sector_no «from» < sectors_of writer.old.geometry }
+    requires sector_bound { sector_no active.sector < sectors_of writer.old.geometry }
     requires apart { sector_no «from» ≡ sector_no active.sector → ⊥ }
-    requires consistent { Consistent budget }
-    requires source_inside { source.first + rule.data_blocks source.length ≤ blocks_of g }
-    requires target_inside { active.scan.data_end + rule.data_blocks source.length ≤ blocks_of g }
-    ensures { Did g image.old (stores.data_stores (sector_no active.sector) active.scan.data_end (take (rule.data_blocks source.length) (drop source.first (get_or (image_of (blocks_of g) (sectors_of g) image.old) (sector_no «from») [])))) budget image.new result }
+    requires source_inside { source.first + rule.data_blocks source.length ≤ blocks_of writer.old.geometry }
+    requires target_inside { active.scan.data_end + rule.data_blocks source.length ≤ blocks_of writer.old.geometry }
+    ensures { Did writer.old (stores.data_stores (sector_no active.sector) active.scan.data_end (take (rule.data_blocks source.length) (drop source.first (get_or (held writer.old) (sector_no «from») [])))) writer.new result }
 {
-    let to = active.sector;
-    let first = active.scan.data_end;
-    let begin = source.first;
-    let count = look::data_blocks(source.length);
-    let mut stored = budget;
-    let mut k = 0;
-    while k < count {
-        let block = block_of(image, g, from, Block::new(begin + k));
-        stored = put(
-            image,
-            g,
-            to,
-            Block::new(first + k),
-            Kind::Data,
-            block,
-            stored,
-        );
-        if stored.cut {
-            return stored;
-        }
-        k += 1;
+    for k in 0..look::data_blocks(source.length) {
+        let block = *writer.image().block(from, Block::new(source.first + k));
+        let b = Block::new(active.scan.data_end + k);
+        writer.put(active.sector, b, Kind::Data, block)?;
     }
-    stored
+    Ok(())
 }
 
-// Entry n of sector `from`, a value, is appended to the active sector.
+// Appends entry n of sector `from`, a value, to the active sector.
 pub fn append_copy(
-    image: &mut [u8],
-    g: Geometry,
+    writer: &mut Writer,
     from: Sector,
     n: usize,
     active: Active,
-    budget: Budget,
-) -> Appended
-    requires backs { Backs g image.old }
-    requires from_bound { sector_no «from» < sectors_of g }
+) -> Result<Active, Cut>
+    requires from_bound { sector_no «from» < sectors_of writer.old.geometry }
     requires apart { sector_no «from» ≡ sector_no active.sector → ⊥ }
-    requires consistent { Consistent budget }
-    requires n_in_bounds { n < length (view_at (views_in g image.old) (sector_no «from»)).entries }
-    requires valued { is_value (entry_in g image.old (sector_no «from») n).head ≡ true }
-    requires carries { Carries g image.old active }
-    requires fits { rule.is_within (blocks_of g) (scan_of active.scan) (entry_in g image.old (sector_no «from») n).head ≡ true }
-    ensures did { Did g image.old (stores.append (blocks_of g) (sector_no active.sector) (entry_in g image.old (sector_no «from») n) (image_of (blocks_of g) (sectors_of g) image.old)) budget image.new result.budget }
-    ensures active { result.budget.cut ≡ false → result.active ≡ with_entry active (entry_in g image.old (sector_no «from») n).head }
+    requires n_in_bounds { n < length (view_at (shown writer.old) (sector_no «from»)).entries }
+    requires valued { is_value (entry_in (shown writer.old) (sector_no «from») n).head ≡ true }
+    requires carries { Carries writer.old.geometry writer.old.image.now active }
+    requires fits { rule.is_within (blocks_of writer.old.geometry) (scan_of active.scan) (entry_in (shown writer.old) (sector_no «from») n).head ≡ true }
+    ensures did { Did writer.old (stores.append (blocks_of writer.old.geometry) (sector_no active.sector) (entry_in (shown writer.old) (sector_no «from») n) (held writer.old)) writer.new result }
+    ensures active { IfOk result (λ next. next ≡ with_entry active (entry_in (shown writer.old) (sector_no «from») n).head) }
 {
-    let block = block_of(image, g, from, Block::new(g.blocks() - 3 - n));
-    let source = source_of(&block);
-    let bytes = copied(&block, active.cycle, active.scan.data_end);
-    let laid = copy_data(image, g, from, source, active, budget);
-    if laid.cut {
-        return Appended {
-            budget: laid,
-            active: active,
-        };
-    }
+    let at = Block::new(writer.geometry.blocks() - 3 - n);
+    let image = writer.image();
+    let block = image.block(from, at);
+    let source = source_of(block);
+    let bytes = copied(block, active.cycle, active.scan.data_end);
+    copy_data(writer, from, source, active)?;
     let head = Head::Value(source.id, source.length);
-    append::put_entry(image, g, active, head, bytes, laid)
+    append::put_entry(writer, active, head, bytes)
 }

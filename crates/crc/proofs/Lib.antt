@@ -1,2 +1,2 @@
--- What the proofs of the functions share, and the proof of a caller that lends a table.
-pub mod Table
+-- What the proofs of both registers share.
+mod Table

@@ -7,7 +7,6 @@ use native.Mathlib.Nat.{add-zero, zero-add, add-suc, suc-add, le_of_suc-le-suc, 
 use lib.Dec.{T, eqb, eqb→eq}
 use lib.ListN.{length, get_or}
 use Rattle.rules.specs.Notation.{times}
-use Rattle.crc.specs.Table.{IsTable}
 
 -- is each entry, counted from k, eight steps of its place?
 unfoldable pub is_right : (step : ℕ → ℕ) → ℕ → List ℕ → Bool
@@ -27,6 +26,8 @@ entry-from step (x ∷ xs) i t (suc k) h =
     entry-from step xs (suc i) (both (eqb x (times 8 step i)) _ t).1 k (le_of_suc-le-suc h)
     ∙ ap (times 8 step) (suc-add i k ∙ sym (add-suc i k))
 
-pub right : (step : ℕ → ℕ) (table : List ℕ) → T (is_right step 0 table) → length table ≡ 256 → IsTable step table
-right step table t n =
-    record { entry = λ k h. entry-from step table 0 t k (subst⁻¹ (λ (m : ℕ). k < m) n h) ∙ ap (times 8 step) (zero-add k) }
+-- so its entry for a byte is eight steps of that byte
+pub right : (step : ℕ → ℕ) (table : List ℕ) → T (is_right step 0 table) → length table ≡ 256
+    → (k : ℕ) → k < 256 → get_or table k 0 ≡ times 8 step k
+right step table t n k h =
+    entry-from step table 0 t k (subst⁻¹ (λ (m : ℕ). k < m) n h) ∙ ap (times 8 step) (zero-add k)

@@ -1,33 +1,21 @@
 #![tactic(auto)]
 // Builds the 16 bytes of each kind of entry. Byte 0, the CRC-8 of the rest, is set last.
 ghost use Rattle.std.specs.Prelude.{◌≡◌, ◌++◌, ◌≤◌, ◌-◌, length};
-ghost use Rattle.rules.specs.Notation.{bytes_of, erased};
+ghost use Rattle.rules.specs.Notation.{erased};
 ghost use Rattle.rules.specs.Entry as rule;
 
+use entry::look::{BODY_AT, CYCLE_AT, ID_AT, LENGTH_AT};
 use entry::{ERASED, LEAD_LENGTH, LEAD_MARK, SMALL};
 use layout::Geometry;
-
-// A number's four bytes, little-endian.
-fn bytes(n: u32) -> [u8; 4]
-    ensures { result ≡ bytes_of 4 n }
-{
-    [
-        (n % 256) as u8,
-        (n / 256 % 256) as u8,
-        (n / 256 / 256 % 256) as u8,
-        (n / 256 / 256 / 256 % 256) as u8,
-    ]
-}
 
 // A body of two numbers.
 fn numbers(a: u32, b: u32) -> [u8; SMALL]
     ensures { result ≡ rule.numbers a b }
 {
-    let first = bytes(a);
-    let second = bytes(b);
-    [
-        first[0], first[1], first[2], first[3], second[0], second[1], second[2], second[3],
-    ]
+    let mut body = [0; SMALL];
+    body[..4].copy_from_slice(&a.to_le_bytes());
+    body[4..].copy_from_slice(&b.to_le_bytes());
+    body
 }
 
 // The value, then FF.
@@ -36,11 +24,7 @@ fn padded(value: &[u8]) -> [u8; SMALL]
     ensures { result ≡ value.now ++ erased (8 - length value.now) }
 {
     let mut body = [ERASED; SMALL];
-    let mut i = 0;
-    while i < value.len() {
-        body[i] = value[i];
-        i += 1;
-    }
+    body[..value.len()].copy_from_slice(value);
     body
 }
 
@@ -48,28 +32,12 @@ fn padded(value: &[u8]) -> [u8; SMALL]
 fn block(cycle: u8, length: u16, id: u32, body: [u8; SMALL]) -> [u8; Geometry::BLOCK_SIZE]
     ensures { result ≡ rule.encode cycle length id body }
 {
-    let length_bytes = bytes(length as u32);
-    let id_bytes = bytes(id);
-    let mut block = [
-        0,
-        cycle,
-        length_bytes[0],
-        length_bytes[1],
-        id_bytes[0],
-        id_bytes[1],
-        id_bytes[2],
-        id_bytes[3],
-        body[0],
-        body[1],
-        body[2],
-        body[3],
-        body[4],
-        body[5],
-        body[6],
-        body[7],
-    ];
-    let check = crc::crc8(&block[1..]);
-    block[0] = check;
+    let mut block = [0; Geometry::BLOCK_SIZE];
+    block[CYCLE_AT] = cycle;
+    block[LENGTH_AT..ID_AT].copy_from_slice(&length.to_le_bytes());
+    block[ID_AT..BODY_AT].copy_from_slice(&id.to_le_bytes());
+    block[BODY_AT..].copy_from_slice(&body);
+    block[0] = crc::crc8(&block[1..]);
     block
 }
 

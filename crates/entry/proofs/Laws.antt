@@ -1,23 +1,25 @@
 -- What the proofs share: the crate's types and those of the rules go over into each other, and bounds.
 -- Assumes nothing.
+use Rattle.std.specs.Prelude.{Some, None, Ok, Err, is_ok, option_map}
+use Rattle.std.proofs.lemmas.Option.{none-some, same_Some}
 use mathlib.Core.Path.{◌≡◌, refl, sym, ap, ◌∙◌}
-use mathlib.Core.Bool.{Bool, true, false}
+use mathlib.Core.Bool.{false, false≢true}
 use mathlib.Core.List.{List}
 use mathlib.Core.Option.{Option, none, some}
 use Prim.Native.Nat.{ℕ, ◌-◌, ◌<◌, ◌^◌}
 use native.Mathlib.Omega.{arith}
 use lib.ListN.{length, take, drop}
-use Rattle.rules.specs.Notation.{is_erased}
+use Rattle.rules.specs.Ground.{block_size}
 use Rattle.rules.specs.Look as rule
 use Rattle.rules.specs.Look.{data_blocks, is_entry}
 use Rattle.rules.proofs.Basics.Lists.{part_to_end}
 use Rattle.rules.proofs.Format.Look.{data-blocks-le}
+use Rattle.layout.specs.Options.{option_as}
 use Rattle.entry.specs.declared.Scan.{Scan}
 use Rattle.entry.specs.declared.Head.{Head}
 use Rattle.entry.specs.declared.Head.TheVariants.{Done, Deletion, Value}
-use Rattle.entry.specs.declared.Verdict.TheVariants as verdict
-use Rattle.entry.specs.declared.look.Form.TheVariants.{Right, Wrong}
-use Rattle.entry.specs.Answer.{head_of, head_as, length_of, form_as, verdict_as}
+use Rattle.entry.specs.declared.NoEntry.{NoEntry}
+use Rattle.entry.specs.Answer.{head_of, head_as, scan_of, scan_as, length_of, reason_of, verdict_as}
 
 -- ---- heads and forms
 
@@ -32,36 +34,64 @@ head-of-as (rule.deletion id) = refl
 head-of-as (rule.value id len) = refl
 
 -- a right form is that of its head, and a wrong one of none
-pub right-form : (o : Option rule.Head) {head : Head} → form_as o ≡ Right head → o ≡ some (head_of head)
-right-form none e = let z : ◌≡◌ {A = ℕ} 0 1 = cc in absurd (omega arith)
-right-form (some h) {head} e =
-    let same : head_as h ≡ head = cc in
-    ap (λ (x : rule.Head). some x) (sym (head-of-as h) ∙ ap head_of same)
+pub right-form : (o : Option rule.Head) {head : Head} → option_map head_as (option_as o) ≡ Some head → o ≡ some (head_of head)
+right-form none {head} e = absurd (none-some head e)
+right-form (some h) {head} e = ap (λ (x : rule.Head). some x) (sym (head-of-as h) ∙ ap head_of (same_Some (head_as h) head e))
 
-pub wrong-form : (o : Option rule.Head) → form_as o ≡ Wrong → o ≡ none
+pub wrong-form : (o : Option rule.Head) → option_map head_as (option_as o) ≡ None → o ≡ none
 wrong-form none e = refl
-wrong-form (some h) e = let z : ◌≡◌ {A = ℕ} 0 1 = cc in absurd (omega arith)
+wrong-form (some h) e = absurd (none-some (head_as h) (sym e))
 
 -- ---- verdicts
 
--- by their numbers, the verdicts that are no entry
-pub no-entry : (before : rule.Scan) (v : rule.Verdict) → ((h : Head) (next : Scan) → verdict_as before v ≡ verdict.Entry h next → ⊥) → is_entry v ≡ false
-unfolding is_entry
-no-entry before (rule.entry head) told = absurd (told _ _ refl)
-no-entry before rule.blank told = refl
-no-entry before rule.other_cycle told = refl
-no-entry before rule.wrong_check told = refl
-no-entry before rule.wrong_form told = refl
-no-entry before rule.over_limit told = refl
+ok-err : {x : Head × Scan} {y : NoEntry} → Ok x ≡ Err y → ⊥
+ok-err e = cc
 
-pub an-entry : (before : rule.Scan) (v : rule.Verdict) {head : Head} {next : Scan} → verdict_as before v ≡ verdict.Entry head next → is_entry v ≡ true
+err-ok : {x : Head × Scan} {y : NoEntry} → Err y ≡ Ok x → ⊥
+err-ok e = cc
+
+-- an entry, with what its sector comes to after it
+pub is-entry : (before : rule.Scan) (v : rule.Verdict) {found : Head × Scan} → verdict_as before v ≡ Ok found
+    → (h : rule.Head) × (v ≡ rule.entry h) × (scan_of found.1 ≡ rule.after before h)
+is-entry before (rule.entry h) {found} e =
+    let same : ◌≡◌ {A = Head × Scan} (head_as h, scan_as (rule.after before h)) found = cc in
+    (h, refl, ap (λ (p : Head × Scan). scan_of p.1) (sym same))
+is-entry before rule.blank {found} e = absurd (err-ok e)
+is-entry before rule.other_cycle {found} e = absurd (err-ok e)
+is-entry before rule.wrong_check {found} e = absurd (err-ok e)
+is-entry before rule.wrong_form {found} e = absurd (err-ok e)
+is-entry before rule.over_limit {found} e = absurd (err-ok e)
+
+-- none, for the reason told
+pub no-entry : (before : rule.Scan) (v : rule.Verdict) {reason : NoEntry} → verdict_as before v ≡ Err reason
+    → (is_entry v ≡ false) × (reason ≡ reason_of v)
 unfolding is_entry
-an-entry before (rule.entry h) e = refl
-an-entry before rule.blank e = let z : ◌≡◌ {A = ℕ} 0 1 = cc in absurd (omega arith)
-an-entry before rule.other_cycle e = let z : ◌≡◌ {A = ℕ} 0 1 = cc in absurd (omega arith)
-an-entry before rule.wrong_check e = let z : ◌≡◌ {A = ℕ} 0 1 = cc in absurd (omega arith)
-an-entry before rule.wrong_form e = let z : ◌≡◌ {A = ℕ} 0 1 = cc in absurd (omega arith)
-an-entry before rule.over_limit e = let z : ◌≡◌ {A = ℕ} 0 1 = cc in absurd (omega arith)
+no-entry before (rule.entry h) e = absurd (ok-err e)
+no-entry before rule.blank e = (refl, cc)
+no-entry before rule.other_cycle e = (refl, cc)
+no-entry before rule.wrong_check e = (refl, cc)
+no-entry before rule.wrong_form e = (refl, cc)
+no-entry before rule.over_limit e = (refl, cc)
+
+-- whether it is one
+pub ok-entry : (before : rule.Scan) (v : rule.Verdict) → is_ok (verdict_as before v) ≡ is_entry v
+unfolding is_entry
+ok-entry before (rule.entry h) = refl
+ok-entry before rule.blank = refl
+ok-entry before rule.other_cycle = refl
+ok-entry before rule.wrong_check = refl
+ok-entry before rule.wrong_form = refl
+ok-entry before rule.over_limit = refl
+
+-- and the verdict by its reason
+pub err-reason : (before : rule.Scan) (v : rule.Verdict) → is_entry v ≡ false → Err (reason_of v) ≡ verdict_as before v
+unfolding is_entry
+err-reason before (rule.entry h) e = absurd (false≢true (sym e))
+err-reason before rule.blank e = refl
+err-reason before rule.other_cycle e = refl
+err-reason before rule.wrong_check e = refl
+err-reason before rule.wrong_form e = refl
+err-reason before rule.over_limit e = refl
 
 -- ---- bounds
 
@@ -71,8 +101,8 @@ few-data head {id} {len} told short =
     let same : length_of head ≡ len = ap length_of told in
     omega (arith, data-blocks-le len)
 
--- ---- a part that was looked at
+-- ---- a part of a block
 
-pub erased-rest : (m : ℕ) (bytes : List ℕ) {r t : Bool} → r ≡ is_erased (take (length bytes - m) (drop m bytes)) → r ≡ t
-    → is_erased (drop m bytes) ≡ t
-erased-rest m bytes e answer = ap is_erased (sym (part_to_end m bytes)) ∙ sym e ∙ answer
+-- what lies from byte m on
+pub rest_of_block : (m : ℕ) (block : List ℕ) → length block ≡ block_size → take (block_size - m) (drop m block) ≡ drop m block
+rest_of_block m block whole = ap (λ (n : ℕ). take (n - m) (drop m block)) (sym whole) ∙ part_to_end m block

@@ -1,17 +1,17 @@
 -- The crate's types beside the plain data of the rules: `..Of` reads one as the other, `..As` gives the answer for it.
-use Rattle.std.specs.Prelude.{ℕ, ◌-◌, ◌≤◌}
-use Rattle.std.proofs.Math.Option.{Option, none, some}
+use Rattle.std.specs.Prelude.{ℕ, ◌-◌, ◌≤◌, Result, Ok, Err}
 use Rattle.rules.specs.Ground.{kept_from_values, kept_from_deletions}
 use Rattle.rules.specs.Look as rule
 use Rattle.entry.specs.declared.Scan.{Scan}
 use Rattle.entry.specs.declared.Head.{Head}
 use Rattle.entry.specs.declared.Head.TheVariants as head
-use Rattle.entry.specs.declared.Verdict.{Verdict}
-use Rattle.entry.specs.declared.Verdict.TheVariants as verdict
-use Rattle.entry.specs.declared.Lead.{Lead}
-use Rattle.entry.specs.declared.Lead.TheVariants as lead
-use Rattle.entry.specs.declared.look.Form.{Form}
-use Rattle.entry.specs.declared.look.Form.TheVariants as form
+use Rattle.entry.specs.declared.Id.{Id}
+use Rattle.entry.specs.declared.NoEntry.{NoEntry}
+use Rattle.entry.specs.declared.NoEntry.TheVariants as no
+
+-- an ID as the number that it is
+abbrev pub id_no : Id → ℕ
+id_no id = id.number
 
 abbrev pub scan_of : Scan → rule.Scan
 scan_of s = record { needs = s.needs; data_end = s.data_end; done = s.done }
@@ -46,23 +46,16 @@ limit_of B rule.done = B - kept_from_deletions
 limit_of B (rule.deletion id) = B - kept_from_deletions
 limit_of B (rule.value id len) = B - kept_from_values
 
-abbrev pub form_as : Option rule.Head → Form
-form_as none = form.Wrong
-form_as (some h) = form.Right (head_as h)
+-- why a block is no entry; of an entry no reason is asked
+abbrev pub reason_of : rule.Verdict → NoEntry
+reason_of (rule.entry h) = no.Blank
+reason_of rule.blank = no.Blank
+reason_of rule.other_cycle = no.OtherCycle
+reason_of rule.wrong_check = no.WrongCheck
+reason_of rule.wrong_form = no.WrongForm
+reason_of rule.over_limit = no.OverLimit
 
--- the length that a form tells
-abbrev pub form_length : Form → ℕ
-form_length form.Wrong = 0
-form_length (form.Right h) = length_of h
-
-abbrev pub verdict_as : rule.Scan → rule.Verdict → Verdict
-verdict_as before (rule.entry h) = verdict.Entry (head_as h) (scan_as (rule.after before h))
-verdict_as before rule.blank = verdict.Blank
-verdict_as before rule.other_cycle = verdict.OtherCycle
-verdict_as before rule.wrong_check = verdict.WrongCheck
-verdict_as before rule.wrong_form = verdict.WrongForm
-verdict_as before rule.over_limit = verdict.OverLimit
-
-abbrev pub lead_as : Option ℕ → Lead
-lead_as none = lead.Wrong
-lead_as (some cycle) = lead.Cycle cycle
+-- an entry, with what its sector comes to after it, or why it is none
+abbrev pub verdict_as : rule.Scan → rule.Verdict → Result (Head × Scan) NoEntry
+verdict_as before (rule.entry h) = Ok (head_as h, scan_as (rule.after before h))
+verdict_as before v = Err (reason_of v)

@@ -1,5 +1,10 @@
 #![tactic(auto)]
 // Says what an entry is: its types and constants, and `look`, what a block is where it lies in the image.
+ghost use Rattle.std.specs.Prelude.{◌≡◌, MatchOption};
+ghost use Rattle.rules.specs.Ground.{reserved_id};
+
+use layout::Geometry;
+
 pub mod look;
 
 // The byte of an erased block.
@@ -15,6 +20,7 @@ pub const LEAD_LENGTH: u16 = 0xFFFF;
 pub const LEAD_MARK: u32 = 0x00004201;
 
 // What the entries before a block in its sector come to: their needs, their data blocks, and whether one is a done.
+// (That its numbers are Small stands in clauses: in the type, no clause could write a scan of the rules as a Scan.)
 #[derive(Clone, Copy)]
 pub struct Scan {
     pub needs: usize,
@@ -30,11 +36,9 @@ pub enum Head {
     Value(u32, usize),
 }
 
-// The verdict on a block: an entry, with what its sector comes to after it, or the first reason that applies why it is
-// none.
-#[derive(Clone, Copy)]
-pub enum Verdict {
-    Entry(Head, Scan),
+// Why a block is no entry: the first reason that applies.
+#[derive(Clone, Copy, Debug)]
+pub enum NoEntry {
     Blank,
     OtherCycle,
     WrongCheck,
@@ -42,9 +46,29 @@ pub enum Verdict {
     OverLimit,
 }
 
-// The look at a sector's lead: its cycle, or that there is no right lead.
+// The ID of a value.
 #[derive(Clone, Copy)]
-pub enum Lead {
-    Cycle(u8),
-    Wrong,
+pub struct Id {
+    number: u32,
+    pub ghost legal: { number ≡ reserved_id → ⊥ },
+}
+
+impl Id {
+    ghost use Rattle.entry.specs.Answer.{id_no};
+
+    // The ID of this number, if it is not the reserved one.
+    pub fn new(number: u32) -> Option<Id>
+        ensures { MatchOption result (number ≡ reserved_id) (λ id. id_no id ≡ number) }
+    {
+        if number == Geometry::RESERVED_ID {
+            return None;
+        }
+        Some(Id { number })
+    }
+
+    pub fn number(self) -> u32
+        ensures { result ≡ id_no self }
+    {
+        self.number
+    }
 }

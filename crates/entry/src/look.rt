@@ -1,104 +1,73 @@
 // Says what a block is, where it lies: a lead, a close, an entry, or why it is no entry.
-ghost use Rattle.std.specs.Prelude.{◌≡◌, ◌≤◌, ◌<◌, ◌^◌, length};
+ghost use Rattle.std.specs.Prelude.{◌≡◌, ◌≤◌, ◌<◌, ◌^◌, IfSome, option_map};
 ghost use Rattle.rules.specs.Notation as notation;
-ghost use Rattle.rules.specs.Ground.{block_size};
-ghost use Rattle.rules.specs.Checksum.{step8};
 ghost use Rattle.rules.specs.Entry as fields;
 ghost use Rattle.rules.specs.Look as rule;
-ghost use Rattle.crc.specs.Table.{IsTable};
-ghost use Rattle.layout.specs.Geometry.{blocks_of, Sound};
-ghost use Rattle.entry.specs.Answer.{scan_of, scan_as, head_of, length_of, limit_of, Small, form_as, form_length, verdict_as, lead_as};
+ghost use Rattle.layout.specs.Geometry.{blocks_of};
+ghost use Rattle.layout.specs.Options.{option_as};
+ghost use Rattle.entry.specs.Answer.{scan_of, scan_as, head_of, head_as, length_of, limit_of, Small, verdict_as};
 
-use crate::{ERASED, Head, LEAD_LENGTH, LEAD_MARK, Lead, SMALL, Scan, Verdict};
-use crc::tables::CRC8;
+use crate::{ERASED, Head, LEAD_LENGTH, LEAD_MARK, NoEntry, SMALL, Scan};
 use layout::Geometry;
 
 // Where the fields of a block begin: cycle, length, ID, body, and the second number of a body.
-const CYCLE_AT: usize = 1;
+pub const CYCLE_AT: usize = 1;
 
-const LENGTH_AT: usize = 2;
+pub const LENGTH_AT: usize = 2;
 
-const ID_AT: usize = 4;
+pub const ID_AT: usize = 4;
 
 pub const BODY_AT: usize = 8;
 
-const SECOND_AT: usize = 12;
+pub const SECOND_AT: usize = 12;
 
 // The cycle in a block. That of a lead is its sector's.
-pub fn cycle_in(block: &[u8]) -> u8
-    requires { length block.now ≡ block_size }
+pub fn cycle_in(block: &[u8; Geometry::BLOCK_SIZE]) -> u8
     ensures { result ≡ fields.cycle_of block.now }
 {
     block[CYCLE_AT]
 }
 
 // The ID in an entry's block.
-pub fn id_in(block: &[u8]) -> u32
-    requires { length block.now ≡ block_size }
+pub fn id_in(block: &[u8; Geometry::BLOCK_SIZE]) -> u32
     ensures { result ≡ fields.id_of block.now }
 {
     layout::le32(block, ID_AT)
 }
 
 // The length of its value.
-pub fn length_in(block: &[u8]) -> u16
-    requires { length block.now ≡ block_size }
+pub fn length_in(block: &[u8; Geometry::BLOCK_SIZE]) -> u16
     ensures { result ≡ fields.length_of block.now }
 {
     layout::le16(block, LENGTH_AT)
 }
 
 // The offset of the data of a long value.
-pub fn offset_in(block: &[u8]) -> u32
-    requires { length block.now ≡ block_size }
+pub fn offset_in(block: &[u8; Geometry::BLOCK_SIZE]) -> u32
     ensures { result ≡ fields.offset_of block.now }
 {
     layout::le32(block, BODY_AT)
 }
 
 // The CRC-32 of a long value.
-pub fn crc32_in(block: &[u8]) -> u32
-    requires { length block.now ≡ block_size }
+pub fn crc32_in(block: &[u8; Geometry::BLOCK_SIZE]) -> u32
     ensures { result ≡ fields.crc32_of block.now }
 {
     layout::le32(block, SECOND_AT)
 }
 
-// The kind of an entry by its fields.
-#[derive(Clone, Copy)]
-enum Form {
-    Right(Head),
-    Wrong,
-}
-
+// Are these bytes all FF?
 fn is_erased(bytes: &[u8]) -> bool
     ensures { result ≡ notation.is_erased bytes.now }
 {
-    let mut i = 0;
-    while i < bytes.len() {
-        if bytes[i] != ERASED {
-            return false;
-        }
-        i += 1;
-    }
-    true
+    bytes.iter().all(|byte| *byte == ERASED)
 }
 
 // Is byte 0 the CRC-8 of the rest?
-fn is_checked(block: &[u8]) -> bool
-    requires { length block.now ≡ block_size }
+fn is_checked(block: &[u8; Geometry::BLOCK_SIZE]) -> bool
     ensures { result ≡ rule.is_checked block.now }
 {
-    is_checked_by(&CRC8, block)
-}
-
-// The same by a table that is lent.
-fn is_checked_by(table: &[u8; 256], block: &[u8]) -> bool
-    requires table { IsTable step8 table.now }
-    requires block_len { length block.now ≡ block_size }
-    ensures { result ≡ rule.is_checked block.now }
-{
-    block[0] == crc::crc8_by(table, &block[1..])
+    block[0] == crc::crc8(&block[1..])
 }
 
 // The data blocks of a value of this length.
@@ -108,7 +77,7 @@ pub fn data_blocks(length: usize) -> usize
     if length <= SMALL {
         0
     } else {
-        (length - 1) / Geometry::BLOCK_SIZE + 1
+        length.div_ceil(Geometry::BLOCK_SIZE)
     }
 }
 
@@ -127,7 +96,6 @@ impl Head {
 
     // The most that the needs of a sector may be with a value, or with a deletion, among them.
     pub fn limit(self, g: Geometry) -> usize
-        requires { Sound g }
         ensures { result ≡ limit_of (blocks_of g) (head_of self) }
     {
         match self {
@@ -180,7 +148,6 @@ impl Scan {
 
     // Does the entry still count in its sector?
     pub fn admits(self, g: Geometry, head: Head) -> bool
-        requires sound { Sound g }
         requires small { Small self }
         requires length_fits { length_of head < 2 ^ 16 }
         ensures { result ≡ rule.is_within (blocks_of g) (scan_of self) (head_of head) }
@@ -194,105 +161,76 @@ impl Scan {
 }
 
 // The kind of an entry by its fields, the cycle and byte 0 being right.
-fn head_of(block: &[u8], data_end: usize) -> Form
-    requires block_len { length block.now ≡ block_size }
+fn head_of(block: &[u8; Geometry::BLOCK_SIZE], data_end: usize) -> Option<Head>
     requires data_end_bound { data_end ≤ 4096 }
-    ensures form { result ≡ form_as (rule.head_of data_end block.now) }
-    ensures length_fits { form_length result < 2 ^ 16 }
+    ensures form { result ≡ option_map head_as (option_as (rule.head_of data_end block.now)) }
+    ensures length_fits { IfSome result (λ head. length_of head < 2 ^ 16) }
 {
     let id = layout::le32(block, ID_AT);
     let length = layout::le16(block, LENGTH_AT) as usize;
     if id == Geometry::RESERVED_ID {
-        if length == 0 {
-            if is_erased(&block[BODY_AT..]) {
-                return Form::Right(Head::Done);
-            }
-        }
-        return Form::Wrong;
+        (length == 0 && is_erased(&block[BODY_AT..])).then_some(Head::Done)
+    } else if length == 0 {
+        is_erased(&block[BODY_AT..]).then_some(Head::Deletion(id))
+    } else if length <= SMALL {
+        is_erased(&block[BODY_AT + length..]).then_some(Head::Value(id, length))
+    } else {
+        let offset = layout::le32(block, BODY_AT) as usize;
+        (offset == data_end * Geometry::BLOCK_SIZE).then_some(Head::Value(id, length))
     }
-    if length == 0 {
-        if is_erased(&block[BODY_AT..]) {
-            return Form::Right(Head::Deletion(id));
-        }
-        return Form::Wrong;
-    }
-    if length <= SMALL {
-        if is_erased(&block[BODY_AT + length..]) {
-            return Form::Right(Head::Value(id, length));
-        }
-        return Form::Wrong;
-    }
-    let offset = layout::le32(block, BODY_AT) as usize;
-    if offset == data_end * Geometry::BLOCK_SIZE {
-        return Form::Right(Head::Value(id, length));
-    }
-    Form::Wrong
 }
 
-// The verdict on a block of a sector of this cycle, after what was read before it.
-pub fn block(block: &[u8], g: Geometry, cycle: u8, before: Scan) -> Verdict
-    requires block_len { length block.now ≡ block_size }
-    requires sound { Sound g }
-    requires small { Small before }
-    ensures { result ≡ verdict_as (scan_of before) (rule.look (blocks_of g) cycle (scan_of before) block.now) }
-{
-    block_by(&CRC8, block, g, cycle, before)
-}
-
-// The same by a table that is lent, so that it is set up once a sector, not once a block. The cycle byte is compared
-// before byte 0 is worked out.
-pub fn block_by(table: &[u8; 256], block: &[u8], g: Geometry, cycle: u8, before: Scan) -> Verdict
-    requires table { IsTable step8 table.now }
-    requires block_len { length block.now ≡ block_size }
-    requires sound { Sound g }
-    requires small { Small before }
+// What a block of a sector of this cycle is, after what was read before it: an entry, with what its sector comes to
+// after it, or why it is none. The cycle byte is compared before byte 0 is worked out.
+pub fn block(
+    block: &[u8; Geometry::BLOCK_SIZE],
+    g: Geometry,
+    cycle: u8,
+    before: Scan,
+) -> Result<(Head, Scan), NoEntry>
+    requires { Small before }
     ensures { result ≡ verdict_as (scan_of before) (rule.look (blocks_of g) cycle (scan_of before) block.now) }
 {
     if is_erased(block) {
-        return Verdict::Blank;
+        return Err(NoEntry::Blank);
     }
     if block[CYCLE_AT] != cycle {
-        return Verdict::OtherCycle;
+        return Err(NoEntry::OtherCycle);
     }
-    if !is_checked_by(table, block) {
-        return Verdict::WrongCheck;
+    if !is_checked(block) {
+        return Err(NoEntry::WrongCheck);
     }
-    let data_end = before.data_end;
-    let Form::Right(head) = head_of(block, data_end) else {
-        return Verdict::WrongForm;
-    };
-    if before.admits(g, head) {
-        return Verdict::Entry(head, before.after(head));
+    let head = head_of(block, before.data_end).ok_or(NoEntry::WrongForm)?;
+    if !before.admits(g, head) {
+        return Err(NoEntry::OverLimit);
     }
-    Verdict::OverLimit
+    Ok((head, before.after(head)))
 }
 
-// The look at block B-1 of a sector.
-pub fn lead(block: &[u8]) -> Lead
-    requires { length block.now ≡ block_size }
-    ensures { result ≡ lead_as (rule.lead_cycle block.now) }
+// The look at block B-1 of a sector: its cycle, if it is a right lead.
+pub fn lead(block: &[u8; Geometry::BLOCK_SIZE]) -> Option<u8>
+    ensures { result ≡ option_as (rule.lead_cycle block.now) }
 {
     if !is_checked(block) {
-        return Lead::Wrong;
+        return None;
     }
     if layout::le32(block, ID_AT) != Geometry::RESERVED_ID {
-        return Lead::Wrong;
+        return None;
     }
     if layout::le16(block, LENGTH_AT) != LEAD_LENGTH {
-        return Lead::Wrong;
+        return None;
     }
     if layout::le32(block, BODY_AT) != 0 {
-        return Lead::Wrong;
+        return None;
     }
     if layout::le32(block, SECOND_AT) != LEAD_MARK {
-        return Lead::Wrong;
+        return None;
     }
-    Lead::Cycle(block[CYCLE_AT])
+    Some(block[CYCLE_AT])
 }
 
 // Is block B-2 of a sector of this cycle its close?
-pub fn is_close(block: &[u8], cycle: u8) -> bool
-    requires { length block.now ≡ block_size }
+pub fn is_close(block: &[u8; Geometry::BLOCK_SIZE], cycle: u8) -> bool
     ensures { result ≡ rule.is_close cycle block.now }
 {
     if block[CYCLE_AT] != cycle {

@@ -4,11 +4,10 @@ use Rattle.std.specs.Prelude.{if◌then◌else◌}
 use mathlib.Core.Path.{◌≡◌, refl, sym, ap, ◌∙◌}
 use mathlib.Core.Bool.{Bool, true, false, ◌&&◌}
 use mathlib.Core.List.{List, [], ◌∷◌, ◌++◌, append_assoc, append-nil}
-use Prim.Native.Nat.{ℕ, zero, suc, ◌+◌, ◌-◌, ◌≤◌, ◌<◌}
+use Prim.Native.Nat.{ℕ, zero, suc, ◌+◌, ◌-◌, ◌≤◌}
 use native.Mathlib.Nat.{zero-add, add-zero}
 use native.Mathlib.Omega.{arith}
 use lib.Dec.{eqb, leb}
-use borrow.Author.Tests.{eq-eqb, ne_eqb, le-leb, lt-leb}
 use Rattle.rules.specs.Stores as rule
 use Rattle.rules.specs.Stores.{Store, blank_store, final_store, final_blocks, final_sectors}
 use Rattle.rules.specs.Entry.{lead_block, close_block, done_block}
@@ -34,37 +33,6 @@ final-made B s b = go (eqb b (B - 1)) (eqb b (B - 2) && leb 2 s) (eqb b (B - 3) 
     go false true third = refl
     go false false true = refl
     go false false false = refl
-
--- its kind
-module _ (B s b : ℕ) where
-  pub final-lead : b ≡ B - 1 → (final_store B s b).kind ≡ rule.lead
-  unfolding final_store
-  final-lead here = simp (eq-eqb b (B - 1) here)
-
-  pub final-close : 8 ≤ B → b ≡ B - 2 → 2 ≤ s → (final_store B s b).kind ≡ rule.close
-  unfolding final_store
-  final-close enough here closed = simp (ne_eqb b (B - 1) (λ e. omega arith), eq-eqb b (B - 2) here, le-leb 2 s closed)
-
-  pub final-done : 8 ≤ B → b ≡ B - 3 → s ≡ 0 → (final_store B s b).kind ≡ rule.done
-  unfolding final_store
-  final-done enough here first =
-      simp (ne_eqb b (B - 1) (λ e. omega arith), ne_eqb b (B - 2) (λ e. omega arith), eq-eqb b (B - 3) here, eq-eqb s 0 first)
-
-  -- a block below the three
-  pub final-low : (b ≡ B - 1 → ⊥) → (b ≡ B - 2 → ⊥) → (b ≡ B - 3 → ⊥) → (final_store B s b).kind ≡ rule.blank
-  unfolding final_store blank_store
-  final-low n1 n2 n3 = simp (ne_eqb b (B - 1) n1, ne_eqb b (B - 2) n2, ne_eqb b (B - 3) n3)
-
-  -- no close in sectors 0 and 1, and no done but in sector 0
-  pub final-open : 8 ≤ B → b ≡ B - 2 → s < 2 → (final_store B s b).kind ≡ rule.blank
-  unfolding final_store blank_store
-  final-open enough here few =
-      simp (ne_eqb b (B - 1) (λ e. omega arith), eq-eqb b (B - 2) here, lt-leb 2 s few, ne_eqb b (B - 3) (λ e. omega arith))
-
-  pub final-not-done : 8 ≤ B → b ≡ B - 3 → (s ≡ 0 → ⊥) → (final_store B s b).kind ≡ rule.blank
-  unfolding final_store blank_store
-  final-not-done enough here other =
-      simp (ne_eqb b (B - 1) (λ e. omega arith), ne_eqb b (B - 2) (λ e. omega arith), eq-eqb b (B - 3) here, ne_eqb s 0 other)
 
 -- the store of a block by what was worked out for it
 pub final-by : (B s b : ℕ) {kind : rule.Kind} {bytes : List ℕ} → kind ≡ (final_store B s b).kind → bytes ≡ kind_bytes kind

@@ -1,175 +1,91 @@
 #![tactic(auto)]
-// Formats an image, whatever it holds: every block gets its final bytes. Sector 0 has no lead until the last store, so that a
-// format that was cut leaves no store.
-ghost use Rattle.std.specs.Prelude.{◌≡◌, [], ◌∷◌, ◌++◌, ◌-◌, ◌<◌, ◌≤◌};
+// Formats an image, whatever it holds: every block gets its final bytes. Sector 0 has no lead until the last store, so
+// that a format that was cut leaves no store.
+ghost use Rattle.std.specs.Prelude.{◌≡◌, [], ◌∷◌, ◌-◌, ◌<◌, ◌≤◌};
 ghost use Rattle.rules.specs.Stores as rule;
 ghost use Rattle.layout.specs.Numbers.{sector_no, block_no};
-ghost use Rattle.layout.specs.Geometry.{blocks_of, sectors_of, Sound, Backs};
-ghost use Rattle.budget.specs.Budget.{kind_of, Did, Consistent};
-ghost use Rattle.formatting.specs.Finals.{OfCycle1, kind_bytes};
+ghost use Rattle.layout.specs.Geometry.{blocks_of, sectors_of};
+ghost use Rattle.budget.specs.Budget.{kind_of, Did};
+ghost use Rattle.formatting.specs.Finals.{kind_bytes};
 
 use budget::blank::put_blank;
-use budget::{Budget, Kind, blank, put};
+use budget::{Cut, Kind, Writer, blank};
 use layout::{Block, Geometry, Sector};
 
-// The blocks of a format that are not blank, made once.
-#[derive(Clone, Copy)]
-struct Finals {
-    lead: [u8; Geometry::BLOCK_SIZE],
-    close: [u8; Geometry::BLOCK_SIZE],
-    done: [u8; Geometry::BLOCK_SIZE],
-}
-
-impl Finals {
-    // "all cycles 1"
-    fn new() -> Finals
-        ensures { OfCycle1 result }
-    {
-        Finals {
-            lead: encode::lead(1),
-            close: encode::close(1),
-            done: encode::done(1),
-        }
-    }
-}
-
 // What block b of sector s is in the end: "done in sector 0; sectors 2 to S-1 closed; all else blank".
+#[tactic(auto, unfolding(rules::specs::Stores::final_store, rules::specs::Stores::blank_store))]
 fn final_kind(g: Geometry, s: Sector, b: Block) -> Kind
-    requires { Sound g }
     ensures { kind_of result ≡ (rule.final_store (blocks_of g) (sector_no s) (block_no b)).kind }
 {
     let blocks = g.blocks();
     let sector = s.number();
     let at = b.number();
     if at == blocks - 1 {
-        return Kind::Lead;
+        Kind::Lead
+    } else if at == blocks - 2 && sector >= 2 {
+        Kind::Close
+    } else if at == blocks - 3 && sector == 0 {
+        Kind::Done
+    } else {
+        Kind::Blank
     }
-    if at == blocks - 2 {
-        if sector >= 2 {
-            return Kind::Close;
-        }
-        return Kind::Blank;
-    }
-    if at == blocks - 3 {
-        if sector == 0 {
-            return Kind::Done;
-        }
-        return Kind::Blank;
-    }
-    Kind::Blank
 }
 
-// The bytes of a block of this kind in a format.
-fn final_bytes(kind: Kind, finals: Finals) -> [u8; Geometry::BLOCK_SIZE]
-    requires { OfCycle1 finals }
+// The bytes of a block of this kind in a format: "all cycles 1".
+#[tactic(auto, unfolding(crate::specs::Finals::kind_bytes))]
+fn final_bytes(kind: Kind) -> [u8; Geometry::BLOCK_SIZE]
     ensures { result ≡ kind_bytes (kind_of kind) }
 {
     match kind {
-        Kind::Lead => finals.lead,
-        Kind::Close => finals.close,
-        Kind::Done => finals.done,
+        Kind::Lead => encode::lead(1),
+        Kind::Close => encode::close(1),
+        Kind::Done => encode::done(1),
         _ => blank::bytes(),
     }
 }
 
-// Block b of sector s, with its final bytes.
-fn put_final(
-    image: &mut [u8],
-    g: Geometry,
-    s: Sector,
-    b: Block,
-    finals: Finals,
-    budget: Budget,
-) -> Budget
-    requires backs { Backs g image.old }
-    requires s_bound { sector_no s < sectors_of g }
-    requires b_bound { block_no b < blocks_of g }
-    requires of_cycle1 { OfCycle1 finals }
-    ensures { Did g image.old (rule.final_store (blocks_of g) (sector_no s) (block_no b) ∷ []) budget image.new result }
+// Stores block b of sector s with its final bytes.
+fn put_final(writer: &mut Writer, s: Sector, b: Block) -> Result<(), Cut>
+    requires s_bound { sector_no s < sectors_of writer.old.geometry }
+    requires b_bound { block_no b < blocks_of writer.old.geometry }
+    ensures { Did writer.old (rule.final_store (blocks_of writer.old.geometry) (sector_no s) (block_no b) ∷ []) writer.new result }
 {
-    let kind = final_kind(g, s, b);
-    put(image, g, s, b, kind, final_bytes(kind, finals), budget)
+    let kind = final_kind(writer.geometry, s, b);
+    writer.put(s, b, kind, final_bytes(kind))
 }
 
-// So many blocks of sector s, upward from block 0.
-fn put_blocks(
-    image: &mut [u8],
-    g: Geometry,
-    s: Sector,
-    count: usize,
-    finals: Finals,
-    budget: Budget,
-) -> Budget
-    requires backs { Backs g image.old }
-    requires s_bound { sector_no s < sectors_of g }
-    requires count_bound { count ≤ blocks_of g }
-    requires of_cycle1 { OfCycle1 finals }
-    requires consistent { Consistent budget }
-    ensures { Did g image.old (rule.final_blocks (blocks_of g) (sector_no s) 0 count) budget image.new result }
+// Stores so many blocks of sector s, upward from block 0.
+fn put_blocks(writer: &mut Writer, s: Sector, count: usize) -> Result<(), Cut>
+    requires s_bound { sector_no s < sectors_of writer.old.geometry }
+    requires count_bound { count ≤ blocks_of writer.old.geometry }
+    ensures { Did writer.old (rule.final_blocks (blocks_of writer.old.geometry) (sector_no s) 0 count) writer.new result }
 {
-    let mut left = budget;
-    let mut b = 0;
-    while b < count {
-        left = put_final(image, g, s, Block::new(b), finals, left);
-        if left.cut {
-            return left;
-        }
-        b += 1;
+    for b in 0..count {
+        put_final(writer, s, Block::new(b))?;
     }
-    left
+    Ok(())
 }
 
-// Every sector but the first.
-fn put_sectors(image: &mut [u8], g: Geometry, finals: Finals, budget: Budget) -> Budget
-    requires backs { Backs g image.old }
-    requires of_cycle1 { OfCycle1 finals }
-    requires consistent { Consistent budget }
-    ensures { Did g image.old (rule.final_sectors (blocks_of g) 1 (sectors_of g - 1)) budget image.new result }
+// Stores every sector but the first.
+fn put_sectors(writer: &mut Writer) -> Result<(), Cut>
+    ensures { Did writer.old (rule.final_sectors (blocks_of writer.old.geometry) 1 (sectors_of writer.old.geometry - 1)) writer.new result }
 {
-    let blocks = g.blocks();
-    let sectors = g.sectors();
-    let mut left = budget;
-    let mut s = 1;
-    while s < sectors {
-        left = put_blocks(image, g, Sector::new(s), blocks, finals, left);
-        if left.cut {
-            return left;
-        }
-        s += 1;
+    let g = writer.geometry;
+    for s in 1..g.sectors() {
+        put_blocks(writer, Sector::new(s), g.blocks())?;
     }
-    left
+    Ok(())
 }
 
-// Every block but the lead of sector 0, upward.
-fn put_rest(image: &mut [u8], g: Geometry, finals: Finals, budget: Budget) -> Budget
-    requires backs { Backs g image.old }
-    requires of_cycle1 { OfCycle1 finals }
-    requires consistent { Consistent budget }
-    ensures { Did g image.old (rule.final_blocks (blocks_of g) 0 0 (blocks_of g - 1) ++ rule.final_sectors (blocks_of g) 1 (sectors_of g - 1)) budget image.new result }
+pub fn format(writer: &mut Writer) -> Result<(), Cut>
+    ensures { Did writer.old (rule.format (blocks_of writer.old.geometry) (sectors_of writer.old.geometry)) writer.new result }
 {
-    let count = g.blocks() - 1;
-    let first = put_blocks(image, g, Sector::new(0), count, finals, budget);
-    if first.cut {
-        return first;
-    }
-    put_sectors(image, g, finals, first)
-}
-
-pub fn format(image: &mut [u8], g: Geometry, budget: Budget) -> Budget
-    requires backs { Backs g image.old }
-    requires consistent { Consistent budget }
-    ensures { Did g image.old (rule.format (blocks_of g) (sectors_of g)) budget image.new result }
-{
-    let finals = Finals::new();
+    let g = writer.geometry;
     let first = Sector::new(0);
     let lead = Block::new(g.blocks() - 1);
-    let unled = put_blank(image, g, first, lead, budget);
-    if unled.cut {
-        return unled;
-    }
-    let rest = put_rest(image, g, finals, unled);
-    if rest.cut {
-        return rest;
-    }
-    put_final(image, g, first, lead, finals, rest)
+    put_blank(writer, first, lead)?;
+    let below_lead = g.blocks() - 1;
+    put_blocks(writer, first, below_lead)?;
+    put_sectors(writer)?;
+    put_final(writer, first, lead)
 }

@@ -8,6 +8,7 @@ use mathlib.Core.Option.{none}
 use Prim.Native.Nat.{ℕ, ◌+◌, ◌≤◌, ◌<◌}
 use native.Mathlib.Omega.{arith}
 use lib.ListN.{length, get_or, set, take}
+use Rattle.std.specs.Prelude.{Some}
 use lib.Seq.{take_all}
 use Rattle.rules.specs.Notation.{all, places_from}
 use Rattle.rules.specs.Ground.{max_sectors}
@@ -22,7 +23,7 @@ use Rattle.sector.specs.declared.Class.{Class}
 use Rattle.sector.specs.Answer.{class_as}
 use Rattle.image.specs.declared.survey.Classes.{Classes}
 use Rattle.image.specs.Answer.{marked, is_working_class, is_unfinished_class}
-use Rattle.image.proofs.Sectors.{working-by, unfinished-by}
+use Rattle.image.proofs.Sectors.{told-led, working-by, unfinished-by}
 
 -- The sectors below s are read: their leads are right, and their classes are noted.
 pub record Surveyed (views : List View) (classes : Classes) (s : ℕ) : Type 0 where
@@ -33,7 +34,6 @@ pub record Surveyed (views : List View) (classes : Classes) (s : ℕ) : Type 0 w
 -- a mask after one sector more
 held-marked {ℓ} : {A : Type ℓ} (test : A → Bool) (d : A) (xs : List A) → length xs ≤ max_sectors → (s : ℕ) → s < length xs → {m r : Mask}
     → Holds m (map test (take s xs)) → flags_of r ≡ marked (test (get_or xs s d)) s (flags_of m) → Holds r (map test (take (s + 1) xs))
-unfolding marked
 held-marked test d xs few s here {m} {r} held e =
     ⊎_elim
     (λ t. survey-added test d xs few s here held t.0 (sym t.1))
@@ -42,24 +42,20 @@ held-marked test d xs few s here {m} {r} held e =
     record { few = passed.few; exact = sym f.1 ∙ passed.exact })
     (if-cases (test (get_or xs s d)) (set (flags_of m) s true) (flags_of m) (sym e))
 
--- no sector is read yet
-pub surveyed-none : (views : List View) {classes : Classes} → Holds classes.working [] → Holds classes.unfinished [] → Surveyed views classes 0
-surveyed-none views working unfinished = record { led = λ t h. absurd (omega arith); working = working; unfinished = unfinished }
-
 module _ (views : List View) where
   -- a sector with a right lead
   module _ (few : length views ≤ max_sectors) {classes next : Classes} {s : ℕ} (k : Surveyed views classes s) (here : s < length views) where
-    pub surveyed-more : {class : Class} → class ≡ class_as (view_at views s) → (view_at views s).led ≡ true
+    pub surveyed-more : {class : Class} → class_as (view_at views s) ≡ Some class
         → flags_of next.working ≡ marked (is_working_class class) s (flags_of classes.working)
         → flags_of next.unfinished ≡ marked (is_unfinished_class class) s (flags_of classes.unfinished)
         → Surveyed views next (s + 1)
     unfolding view_at
-    surveyed-more same led working unfinished =
+    surveyed-more told working unfinished =
         let view : View = view_at views s in
         record {
-          led = λ t h. here-or (λ (x : ℕ). x < s + 1 → (view_at views x).led ≡ true) s t (λ at. led) (λ other before. k.led t (omega arith)) h;
-          working = held-marked is_working no_view views few s here k.working (rw (same, working-by view led) at working);
-          unfinished = held-marked is_unfinished no_view views few s here k.unfinished (rw (same, unfinished-by view led) at unfinished);
+          led = λ t h. here-or (λ (x : ℕ). x < s + 1 → (view_at views x).led ≡ true) s t (λ at. told-led view told) (λ other before. k.led t (omega arith)) h;
+          working = held-marked is_working no_view views few s here k.working (rw (working-by view told) at working);
+          unfinished = held-marked is_unfinished no_view views few s here k.unfinished (rw (unfinished-by view told) at unfinished);
         }
 
   -- all are read

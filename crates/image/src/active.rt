@@ -2,11 +2,11 @@
 ghost use Rattle.std.specs.Prelude.{◌≡◌, [], ◌<◌};
 ghost use Rattle.rules.specs.Meaning.{view_at};
 ghost use Rattle.layout.specs.Numbers.{sector_no};
-ghost use Rattle.layout.specs.Geometry.{sectors_of, Backs};
-ghost use Rattle.image.specs.Answer.{views_in, active_as};
+ghost use Rattle.layout.specs.Geometry.{sectors_of};
+ghost use Rattle.image.specs.Answer.{views, active_as};
 
 use entry::Scan;
-use layout::{Geometry, Sector};
+use layout::{Image, Sector};
 
 // Its number, its cycle, how many entries it has, and what they come to.
 #[derive(Clone, Copy)]
@@ -18,32 +18,29 @@ pub struct Active {
 }
 
 // Reads the entries of sector s.
-pub fn read(image: &[u8], g: Geometry, s: Sector) -> Active
-    requires backs { Backs g image.now }
-    requires s_bound { sector_no s < sectors_of g }
-    ensures { result ≡ active_as (sector_no s) (view_at (views_in g image.now) (sector_no s)) }
+pub fn read(image: &Image, s: Sector) -> Active
+    requires s_bound { sector_no s < sectors_of image.now.geometry }
+    ensures { result ≡ active_as (sector_no s) (view_at (views image.now) (sector_no s)) }
 {
-    let cycle = sector::cycle_at(image, g, s);
-    let entries = sector::take_entries(layout::sector_bytes(image, g, s), g, cycle);
-    let scan = entries.scan;
+    let cycle = sector::cycle_at(image, s);
+    let entries = sector::take_entries(&image.sector(s), cycle);
     Active {
         sector: s,
-        cycle: cycle,
+        cycle,
         entries: entries.count,
-        scan: scan,
+        scan: entries.scan,
     }
 }
 
 // Sector s, which is known to have no entries: only its cycle is read.
-pub fn unused(image: &[u8], g: Geometry, s: Sector) -> Active
-    requires backs { Backs g image.now }
-    requires s_bound { sector_no s < sectors_of g }
-    requires empty { (view_at (views_in g image.now) (sector_no s)).entries ≡ [] }
-    ensures { result ≡ active_as (sector_no s) (view_at (views_in g image.now) (sector_no s)) }
+pub fn unused(image: &Image, s: Sector) -> Active
+    requires s_bound { sector_no s < sectors_of image.now.geometry }
+    requires empty { (view_at (views image.now) (sector_no s)).entries ≡ [] }
+    ensures { result ≡ active_as (sector_no s) (view_at (views image.now) (sector_no s)) }
 {
     Active {
         sector: s,
-        cycle: sector::cycle_at(image, g, s),
+        cycle: sector::cycle_at(image, s),
         entries: 0,
         scan: Scan::start(),
     }

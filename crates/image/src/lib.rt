@@ -1,5 +1,7 @@
 #![tactic(auto)]
-// What an image means: the state that its sectors make together, and what is carried of the one that is written.
+// What an image means: the state that its sectors make together, and what is carried of the one that is written. That a
+// sector is one of the image stands in the contracts: a type for it would carry the image beside each sector number
+// that is noted, carried or handed out, and be no plainer.
 pub mod active;
 pub mod entries;
 pub mod ring;
@@ -7,11 +9,10 @@ pub mod survey;
 
 use layout::Sector;
 
-// The state, with the sector that decides it: the working one; in mid-turn the unfinished one.
+// The state of a store, with the sector that decides it: the working one; in mid-turn the unfinished one.
 #[derive(Clone, Copy)]
 pub enum Status {
     Rest(Sector),
     NotReopened(Sector),
     MidTurn(Sector),
-    NoStore,
 }

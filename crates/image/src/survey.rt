@@ -3,12 +3,12 @@ ghost use Rattle.std.specs.Prelude.{◌≡◌, [], ◌∷◌, ℕ, ◌<◌};
 ghost use Rattle.rules.specs.Ground.{max_sectors};
 ghost use Rattle.rules.specs.Meaning.{state_by, state_of};
 ghost use Rattle.layout.specs.Numbers.{sector_no};
-ghost use Rattle.layout.specs.Geometry.{sectors_of, Backs};
+ghost use Rattle.layout.specs.Geometry.{sectors_of};
 ghost use Rattle.mask.specs.Flags.{flags_of, sectors_in};
-ghost use Rattle.image.specs.Answer.{status_as, views_in, is_working_class, is_unfinished_class, marked};
+ghost use Rattle.image.specs.Answer.{status_as, views, is_working_class, is_unfinished_class, marked};
 
 use crate::{Status, ring};
-use layout::{Geometry, Sector};
+use layout::{Image, Sector};
 use mask::Mask;
 use sector::Class;
 
@@ -26,81 +26,70 @@ impl Classes {
         ensures working { flags_of result.working ≡ marked (is_working_class class) (sector_no s) (flags_of self.working) }
         ensures unfinished { flags_of result.unfinished ≡ marked (is_unfinished_class class) (sector_no s) (flags_of self.unfinished) }
     {
-        let working = self.working;
-        let unfinished = self.unfinished;
         match class {
             Class::Working => Classes {
-                working: working.add(s),
-                unfinished: unfinished,
+                working: self.working.add(s),
+                ..self
             },
             Class::Unfinished => Classes {
-                working: working,
-                unfinished: unfinished.add(s),
+                unfinished: self.unfinished.add(s),
+                ..self
             },
             Class::Closed => self,
-            Class::NoLead => self,
         }
     }
 }
 
 // The state where sector w is the working one: by the unfinished ones, and by whether the spare is unused.
-fn state_with(image: &[u8], g: Geometry, w: Sector, unfinished: Mask) -> Status
-    requires backs { Backs g image.now }
-    requires w_bound { sector_no w < sectors_of g }
-    ensures { result ≡ status_as (state_by (views_in g image.now) (sector_no w ∷ []) (sectors_in unfinished)) }
+fn state_with(image: &Image, w: Sector, unfinished: Mask) -> Option<Status>
+    requires w_bound { sector_no w < sectors_of image.now.geometry }
+    ensures { result ≡ status_as (state_by (views image.now) (sector_no w ∷ []) (sectors_in unfinished)) }
 {
     if unfinished.is_empty() {
-        return Status::NotReopened(w);
+        return Some(Status::NotReopened(w));
     }
     if !unfinished.is_one() {
-        return Status::NoStore;
+        return None;
     }
-    let spare = ring::next_sector(g, w);
+    let spare = ring::next_sector(image.geometry, w);
     if unfinished.which().number() != spare.number() {
-        return Status::NoStore;
+        return None;
     }
-    if sector::is_unused(layout::sector_bytes(image, g, spare), g) {
-        return Status::Rest(w);
+    if sector::is_unused(&image.sector(spare)) {
+        return Some(Status::Rest(w));
     }
-    Status::NoStore
+    None
 }
 
 // The state by the classes: "exactly one bit, and which, decides".
-fn decide(image: &[u8], g: Geometry, working: Mask, unfinished: Mask) -> Status
-    requires backs { Backs g image.now }
-    requires working_inside { (w : ℕ) → sectors_in working ≡ w ∷ [] → w < sectors_of g }
-    ensures { result ≡ status_as (state_by (views_in g image.now) (sectors_in working) (sectors_in unfinished)) }
+fn decide(image: &Image, working: Mask, unfinished: Mask) -> Option<Status>
+    requires working_inside { (w : ℕ) → sectors_in working ≡ w ∷ [] → w < sectors_of image.now.geometry }
+    ensures { result ≡ status_as (state_by (views image.now) (sectors_in working) (sectors_in unfinished)) }
 {
     if working.is_empty() {
         if unfinished.is_one() {
-            return Status::MidTurn(unfinished.which());
+            return Some(Status::MidTurn(unfinished.which()));
         }
-        return Status::NoStore;
+        return None;
     }
     if working.is_one() {
-        return state_with(image, g, working.which(), unfinished);
+        return state_with(image, working.which(), unfinished);
     }
-    Status::NoStore
+    None
 }
 
-// The state of an image. Of the entries only those are read that a class depends on.
-pub fn survey(image: &[u8], g: Geometry) -> Status
-    requires { Backs g image.now }
-    ensures { result ≡ status_as (state_of (views_in g image.now)) }
+// The state of an image, if it is a store. Of the entries only those are read that a class depends on.
+pub fn survey(image: &Image) -> Option<Status>
+    ensures { result ≡ status_as (state_of (views image.now)) }
 {
-    let count = g.sectors();
     let mut classes = Classes {
         working: Mask::none(),
         unfinished: Mask::none(),
     };
-    let mut s = 0;
-    while s < count {
-        let class = sector::class_of(layout::sector_bytes(image, g, Sector::new(s)), g);
-        if let Class::NoLead = class {
-            return Status::NoStore;
-        }
-        classes = classes.with(Sector::new(s), class);
-        s += 1;
+    for n in 0..image.geometry.sectors() {
+        let s = Sector::new(n);
+        let class = sector::class_of(&image.sector(s))?;
+        classes = classes.with(s, class);
     }
-    decide(image, g, classes.working, classes.unfinished)
+    decide(image, classes.working, classes.unfinished)
 }

@@ -24,7 +24,8 @@ use Rattle.mask.specs.Marks.{max_marks}
 use Rattle.image.specs.Answer.{no_entry}
 use Rattle.search.specs.Search.{last_named_below}
 use Rattle.search.proofs.Seeking.{last-below}
-use Rattle.index.specs.Index.{bucket_count, bucket_of, last_in, link_to, Indexes}
+use Rattle.index.specs.Buckets.{bucket_count, bucket_of, last_in, link_to}
+use Rattle.index.specs.Tables.{Indexes}
 
 -- every ID has a bucket
 pub bucket-low : (id : ℕ) → bucket_of id < bucket_count
@@ -90,31 +91,31 @@ module _ (id : ℕ) (user : id ≡ reserved_id → ⊥) (es : List Entry) where
         bucket = before.bucket;
       }
 
--- ---- one entry more
+-- ---- one entry more: it comes first in its bucket, before the one that did
 
--- Entry n comes first in its bucket, before the one that did.
 module _ {es : List Entry} {n : ℕ} {heads links : List ℕ} (k : Indexes es n heads links) where
-  more-newest : (a : ℕ) → a < bucket_count → get_or (set heads (bucket_at es n) (n + 1)) a 0 ≡ link_to (last_in a (n + 1) es)
+  abbrev b : ℕ
+  b = bucket_at es n
+
+  more-newest : (a : ℕ) → a < bucket_count → get_or (set heads b (n + 1)) a 0 ≡ link_to (last_in a (n + 1) es)
   more-newest a h =
-      let b : ℕ = bucket_at es n in
       here-or (λ (t : ℕ). get_or (set heads b (n + 1)) t 0 ≡ link_to (last_in t (n + 1) es)) b a
       (get_or-set_same heads b (n + 1) 0 (omega (arith, k.buckets, bucket-low (id_in (get_or es n no_entry).head))) ∙ rw (add-one, last-in-here b es n refl))
       (λ other. get_or-set_other heads b a (n + 1) 0 other ∙ k.newest a h ∙ rw (add-one, last-in-below a es n (λ e. other (sym e))))
 
   more-older : n < max_marks → (t : ℕ) → t < n + 1
-      → get_or (set links n (get_or heads (bucket_at es n) 0)) t 0 ≡ link_to (last_in (bucket_at es t) t es)
+      → get_or (set links n (get_or heads b 0)) t 0 ≡ link_to (last_in (bucket_at es t) t es)
   more-older linked =
-      let b : ℕ = bucket_at es n in
       below_more (λ (t : ℕ). get_or (set links n (get_or heads b 0)) t 0 ≡ link_to (last_in (bucket_at es t) t es)) n
       (λ t h. get_or-set_other links n t (get_or heads b 0) 0 (λ e. omega arith) ∙ k.older t h)
       (get_or-set_same links n (get_or heads b 0) 0 (omega (arith, k.room)) ∙ k.newest b (bucket-low _))
 
-  pub index-more : n < length es → n < max_marks → Indexes es (n + 1) (set heads (bucket_at es n) (n + 1)) (set links n (get_or heads (bucket_at es n) 0))
+  pub index-more : n < length es → n < max_marks → Indexes es (n + 1) (set heads b (n + 1)) (set links n (get_or heads b 0))
   index-more here linked =
       record {
         few = omega arith;
-        buckets = length-set heads (bucket_at es n) (n + 1) ∙ k.buckets;
-        room = length-set links n (get_or heads (bucket_at es n) 0) ∙ k.room;
+        buckets = length-set heads b (n + 1) ∙ k.buckets;
+        room = length-set links n (get_or heads b 0) ∙ k.room;
         newest = more-newest;
         older = more-older linked;
       }

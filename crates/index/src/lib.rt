@@ -1,71 +1,107 @@
 #![tactic(auto)]
-// Finds the entries of one sector by ID. The entries fall into buckets by their IDs; one table has the newest entry of each
-// bucket, another for each entry the next older one of its bucket. 0 is no entry, n + 1 entry n.
-ghost use Rattle.std.specs.Prelude.{◌≡◌, ◌+◌, ◌<◌, length};
-ghost use Rattle.rules.specs.Ground.{reserved_id};
-ghost use Rattle.rules.specs.Meaning.{view_at};
+// Finds the entries of one sector by ID. The entries fall into buckets by their IDs; one table has the newest entry of
+// each bucket, another for each entry the next older one of its bucket.
+ghost use Rattle.std.specs.Prelude.{◌≡◌, ◌<◌};
 ghost use Rattle.layout.specs.Numbers.{sector_no};
-ghost use Rattle.layout.specs.Geometry.{sectors_of, Backs};
-ghost use Rattle.image.specs.Answer.{views_in};
-ghost use Rattle.search.specs.Search.{last_named_below, hit_as};
-ghost use Rattle.index.specs.Index.{bucket_of, Indexes};
+ghost use Rattle.layout.specs.Geometry.{sectors_of};
+ghost use Rattle.index.specs.Buckets.{bucket_count, bucket_of, link_to};
+ghost use Rattle.index.specs.Tables.{entries_at, Indexes};
 
-use entry::look;
-use image::entries;
-use layout::{Geometry, Sector};
-use search::Hit;
+use entry::{Id, look};
+use image::entries::EntryAt;
+use layout::{Image, Sector};
 
 pub const BUCKETS: usize = 4096;
 
 // One for each block of the largest sector, and so for each entry.
 pub const LINKS: usize = 4096;
 
-// The bucket of an ID, by Fibonacci hashing: bits 20 to 31 of its product with 2^32 over the golden ratio, so that IDs in a row spread.
+// The index of the first `count` entries of a sector of an image. There is no heap for a map, so its tables are fixed;
+// their 16 KiB are lent, never copied.
+#[derive(Drop)]
+pub struct Index<'a> {
+    pub image: Image<'a>,
+    pub sector: Sector,
+    count: usize,
+    heads: [u16; BUCKETS],
+    links: [u16; LINKS],
+    pub ghost inside: { sector_no sector < sectors_of image.geometry },
+    pub ghost indexes: { Indexes (entries_at image sector) count heads links },
+}
+
+// The bucket of an ID, by Fibonacci hashing: bits 20 to 31 of its product with 2^32 over the golden ratio, so that IDs
+// in a row spread.
 fn bucket(id: u32) -> usize
-    ensures { result ≡ bucket_of id }
+    ensures bucket { result ≡ bucket_of id }
+    ensures low { result < bucket_count }
 {
     (id as u64 * 2654435769 / 1048576 % 4096) as usize
 }
 
-// The newest of the first `count` entries of sector s that names the ID.
-pub fn find(
-    image: &[u8],
-    g: Geometry,
-    s: Sector,
-    count: usize,
-    heads: &[u16],
-    links: &[u16],
-    id: u32,
-) -> Hit
-    requires backs { Backs g image.now }
-    requires s_bound { sector_no s < sectors_of g }
-    requires indexes { Indexes (view_at (views_in g image.now) (sector_no s)).entries count heads.now links.now }
-    requires legal_id { id ≡ reserved_id → ⊥ }
-    ensures { result ≡ hit_as (last_named_below id count (view_at (views_in g image.now) (sector_no s)).entries) }
+// The entry that a link leads to: 0 leads to none, n + 1 to entry n. A table of Option<u16> would take twice the stack.
+fn linked(link: u16) -> Option<usize>
+    ensures { link_to result ≡ link }
 {
-    let at = bucket(id);
-    let mut link = heads[at] as usize;
-    while link > 0 {
-        let n = link - 1;
-        let block = entries::entry_block(image, g, s, n);
-        if look::id_in(block) == id {
-            return Hit::At(n);
-        }
-        link = links[n] as usize;
-    }
-    Hit::Nothing
+    (link as usize).checked_sub(1)
 }
 
-// Entry n of sector s goes into the tables of the entries before it.
-pub fn add(image: &[u8], g: Geometry, s: Sector, n: usize, heads: &mut [u16], links: &mut [u16])
-    requires backs { Backs g image.now }
-    requires s_bound { sector_no s < sectors_of g }
-    requires n_in_bounds { n < length (view_at (views_in g image.now) (sector_no s)).entries }
-    requires indexes { Indexes (view_at (views_in g image.now) (sector_no s)).entries n heads.old links.old }
-    ensures { Indexes (view_at (views_in g image.now) (sector_no s)).entries (n + 1) heads.new links.new }
-{
-    let block = entries::entry_block(image, g, s, n);
-    let at = bucket(look::id_in(block));
-    links[n] = heads[at];
-    heads[at] = (n + 1) as u16;
+impl<'a> Index<'a> {
+    ghost use Rattle.std.specs.Prelude.{◌+◌, length};
+    ghost use Rattle.entry.specs.Answer.{id_no};
+    ghost use Rattle.search.specs.Search.{last_named_below};
+    ghost use Rattle.index.specs.Index.{entries_of};
+
+    // None of sector s's entries.
+    pub fn new(image: &Image<'a>, s: Sector) -> Index<'a>
+        requires { sector_no s < sectors_of image.now.geometry }
+        ensures image { result.image ≡ image.now }
+        ensures sector { result.sector ≡ s }
+        ensures empty { result.count ≡ 0 }
+    {
+        Index {
+            image: *image,
+            sector: s,
+            count: 0,
+            heads: [0u16; BUCKETS],
+            links: [0u16; LINKS],
+        }
+    }
+
+    // The newest of its entries that names the ID.
+    pub fn find(&self, id: Id) -> Option<usize>
+        ensures { result ≡ last_named_below (id_no id) self.now.count (entries_of self.now) }
+    {
+        let mut link = linked(self.heads[bucket(id.number())]);
+        while let Some(number) = link {
+            let entry = EntryAt {
+                image: self.image,
+                sector: self.sector,
+                number,
+            };
+            if look::id_in(entry.block()) == id.number() {
+                return Some(number);
+            }
+            link = linked(self.links[number]);
+        }
+        None
+    }
+
+    // Takes in the next entry of its sector.
+    pub fn add(&mut self)
+        requires more { self.old.count < length (entries_of self.old) }
+        ensures image { self.new.image ≡ self.old.image }
+        ensures sector { self.new.sector ≡ self.old.sector }
+        ensures counted { self.new.count ≡ self.old.count + 1 }
+    {
+        let number = self.count;
+        let entry = EntryAt {
+            image: self.image,
+            sector: self.sector,
+            number,
+        };
+        let at = bucket(look::id_in(entry.block()));
+        self.links[number] = self.heads[at];
+        self.count = number + 1;
+        self.heads[at] = self.count as u16;
+    }
 }

@@ -1,2 +1,3 @@
 -- Laws that callers of `layout` cite.
 pub mod Laws
+pub mod Options

@@ -1,3 +1,6 @@
 -- What the contracts of `layout` cite, besides the definitions of `rules`.
 pub mod Numbers
+pub mod Sizes
 pub mod Geometry
+pub mod Image
+pub mod Options

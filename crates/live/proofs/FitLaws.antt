@@ -2,7 +2,8 @@
 -- Assumes nothing.
 use mathlib.Core.Path.{◌≡◌, refl}
 use mathlib.Core.List.{List}
-use mathlib.Core.Option.{Option, none, some}
+use mathlib.Core.Option.{some}
+use Rattle.std.specs.Prelude.{Some, None}
 use Prim.Native.Nat.{ℕ, ◌+◌, ◌<◌, ◌≤◌}
 use native.Mathlib.Omega.{arith}
 use Rattle.rules.specs.Notation.{Each, concat}
@@ -20,20 +21,11 @@ use Rattle.rules.proofs.Crash.Changing.{turns-room}
 use Rattle.rules.proofs.Crash.Resting.{change-none, change-some}
 use Rattle.layout.specs.declared.Geometry.{Geometry}
 use Rattle.layout.specs.Geometry.{blocks_of, sectors_of, Backs}
-use Rattle.live.specs.declared.fit.Fit.TheVariants as fit
 use Rattle.image.specs.Answer.{views_in}
-use Rattle.live.specs.Fit.{fit_as}
+use Rattle.layout.specs.Options.{option_as}
+use Rattle.layout.proofs.Options.{as-some, as-none}
 use Rattle.image.proofs.Sectors.{views-count}
 use Rattle.image.proofs.Laws.{rest-inside}
-
--- the answer, read back
-pub fit-after : (o : Option ℕ) {t : ℕ} → fit_as o ≡ fit.After t → o ≡ some t
-fit-after none {t} e = let z : ◌≡◌ {A = ℕ} 0 1 = cc in absurd (omega arith)
-fit-after (some m) {t} e = cc
-
-pub fit-no-room : (o : Option ℕ) → fit_as o ≡ fit.NoRoom → o ≡ none
-fit-no-room none e = refl
-fit-no-room (some m) e = let z : ◌≡◌ {A = ℕ} 0 1 = cc in absurd (omega arith)
 
 -- with no turn, by the needs of the open sector
 pub fits-open : (need limit w : ℕ) (views : List View) → needs_of (view_at views w).entries + need ≤ limit → least_turns need limit w views ≡ some 0
@@ -42,21 +34,21 @@ fits-open need limit w views room =
 
 -- what is due of a change
 module _ (g : Geometry) (bytes : List ℕ) (w limit : ℕ) (e : Entry) where
-  pub no-room-due : fit_as (least_turns (need_of e.head) limit w (views_in g bytes)) ≡ fit.NoRoom
+  pub no-room-due : option_as (least_turns (need_of e.head) limit w (views_in g bytes)) ≡ None
       → change_on (blocks_of g) (sectors_of g) w limit e (image_of (blocks_of g) (sectors_of g) bytes) ≡ refuse no_room
-  no-room-due told = change-none (blocks_of g) (sectors_of g) w limit e _ (fit-no-room _ told)
+  no-room-due told = change-none (blocks_of g) (sectors_of g) w limit e _ (as-none _ told)
 
-  pub after-due : {t : ℕ} → fit_as (least_turns (need_of e.head) limit w (views_in g bytes)) ≡ fit.After t
+  pub after-due : {t : ℕ} → option_as (least_turns (need_of e.head) limit w (views_in g bytes)) ≡ Some t
       → let im : Image = image_of (blocks_of g) (sectors_of g) bytes in
       change_on (blocks_of g) (sectors_of g) w limit e im ≡ make (change (blocks_of g) (sectors_of g) t w e im) t
-  after-due {t} told = change-some (blocks_of g) (sectors_of g) w limit e _ t (fit-after _ told)
+  after-due {t} told = change-some (blocks_of g) (sectors_of g) w limit e _ t (as-some _ told)
 
-module _ (g : Geometry) (bytes : List ℕ) (need limit w : ℕ) {t : ℕ} (told : fit_as (least_turns need limit w (views_in g bytes)) ≡ fit.After t) where
+module _ (g : Geometry) (bytes : List ℕ) (need limit w : ℕ) {t : ℕ} (told : option_as (least_turns need limit w (views_in g bytes)) ≡ Some t) where
   -- "t from 0 to S-1"
   pub turns-below : w < sectors_of g → t < sectors_of g
   turns-below here =
       let count = length-counting w (views_in g bytes) (omega (arith, views-count g bytes)) in
-      omega (arith, (turns-least need limit w (views_in g bytes) (fit-after _ told)).within, count, views-count g bytes)
+      omega (arith, (turns-least need limit w (views_in g bytes) (as-some _ told)).within, count, views-count g bytes)
 
   -- after the turns it fits the sector that is open then
   pub room_after : Backs g bytes → Each (λ b. b < 256) bytes → state_of (views_in g bytes) ≡ some (at_rest w)
@@ -65,10 +57,10 @@ module _ (g : Geometry) (bytes : List ℕ) (need limit w : ℕ) {t : ℕ} (told 
   unfolding Is
   room_after backs typed rest =
       let ring : List (List Entry) = entries_each (all_but (next (sectors_of g) w) (views_in g bytes)) in
-      turns-room (blocks_of g) (sectors_of g) backs.sound.blocks_from backs.sound.blocks_to backs.sound.sectors_from (λ id. lookup id (concat ring))
+      turns-room (blocks_of g) (sectors_of g) g.sound.blocks_from g.sound.blocks_to g.sound.sectors_from (λ id. lookup id (concat ring))
       need limit t (image_of (blocks_of g) (sectors_of g) bytes)
       (λ id. refl)
       (image-of-bytes (blocks_of g) (sectors_of g) bytes typed backs.sized)
       (rest-inside g bytes w rest)
       (record { sized = views-count g bytes; is = state-is (views_in g bytes) (at_rest w) rest; held = refl })
-      (fit-after _ told)
+      (as-some _ told)

@@ -14,7 +14,7 @@ use Rattle.rules.proofs.Ring.Order.{next-lt}
 use Rattle.rules.proofs.Ring.Newest.{ring-first, ring-up, ring-other}
 use Rattle.rules.proofs.Ring.Fits.{open_needs, length-counting, needs-after, least-turns, no-turns}
 use Rattle.layout.specs.declared.Geometry.{Geometry}
-use Rattle.layout.specs.Geometry.{blocks_of, sectors_of, Backs}
+use Rattle.layout.specs.Geometry.{blocks_of, sectors_of}
 use Rattle.image.specs.Answer.{views_in}
 use Rattle.image.proofs.Sectors.{views-count}
 use Rattle.live.proofs.LiveNeeds.{needs-few}
@@ -26,7 +26,7 @@ pub record Fitting (need limit : ℕ) (g : Geometry) (bytes : List ℕ) (w t s :
   pub at : t < sectors_of g → next (sectors_of g) s ≡ ring_sector (sectors_of g) (next (sectors_of g) w) (t - 1)
   pub above : (i : ℕ) → i < t → limit < get_or (open_needs w (views_in g bytes)) i 0 + need
 
-module _ (g : Geometry) (bytes : List ℕ) (backs : Backs g bytes) (w : ℕ) (here : w < sectors_of g) where
+module _ (g : Geometry) (bytes : List ℕ) (w : ℕ) (here : w < sectors_of g) where
   spare-inside : next (sectors_of g) w < sectors_of g
   spare-inside = next-lt (sectors_of g) w here
 
@@ -64,7 +64,7 @@ module _ (g : Geometry) (bytes : List ℕ) (backs : Backs g bytes) (w : ℕ) (he
 
       -- its live needs are those of the open sector after t turns
       pub looked-few : needs_of (live_in (next (sectors_of g) w) s' (views_in g bytes)) ≤ blocks_of g
-      looked-few = needs-few g bytes backs (next (sectors_of g) w) s' looked-inside
+      looked-few = needs-few g bytes (next (sectors_of g) w) s' looked-inside
 
       looked-needs : get_or (open_needs w (views_in g bytes)) t 0 ≡ needs_of (live_in (next (sectors_of g) w) s' (views_in g bytes))
       looked-needs =

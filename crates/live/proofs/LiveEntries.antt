@@ -3,7 +3,7 @@
 use mathlib.Core.Path.{◌≡◌, sym, ap, ◌∙◌}
 use mathlib.Core.Bool.{true, false}
 use mathlib.Core.List.{List}
-use mathlib.Core.Option.{none}
+use Rattle.std.specs.Prelude.{None}
 use Prim.Native.Nat.{ℕ, ◌+◌, ◌<◌}
 use lib.Dec.{eqb}
 use lib.ListN.{length, get_or}
@@ -16,18 +16,12 @@ use Rattle.rules.specs.Meaning.{view_at, is_value}
 use Rattle.rules.proofs.Basics.Notation.{by-test, refuted, both_true}
 use Rattle.rules.proofs.Blocks.Lying.{head_by}
 use Rattle.layout.specs.declared.Geometry.{Geometry}
-use Rattle.layout.specs.declared.Sector.{Sector}
 use Rattle.layout.specs.Geometry.{sectors_of, Backs}
-use Rattle.layout.specs.Numbers.{sector_no}
 use Rattle.image.specs.Answer.{no_entry, views_in}
 use Rattle.search.specs.Search.{last_named_below}
 use Rattle.live.specs.Live.{live_flags_in, renewed_by}
 use Rattle.image.proofs.EntryBlocks.{entry_block, entry-lies}
 use Rattle.live.proofs.RenewedLaws.{live-by-renewed}
-
--- the entries of a sector
-abbrev pub entries_at : Geometry → List ℕ → Sector → List Entry
-entries_at g bytes s = (view_at (views_in g bytes) (sector_no s)).entries
 
 module _ (g : Geometry) (bytes : List ℕ) (backs : Backs g bytes) (s n : ℕ) (inside : s < sectors_of g)
     (here : n < length (view_at (views_in g bytes) s).entries) where
@@ -50,7 +44,7 @@ module _ (g : Geometry) (bytes : List ℕ) (backs : Backs g bytes) (s n : ℕ) (
         ≡ renewed_by (head_by (id_of (entry_block g bytes s n)) (length_of (entry_block g bytes s n))) count es
     renewed-by-fields = ap (λ (h : Head). renewed_by h count es) (entry-lies g bytes backs s n inside here).head
 
-    pub reserved-renews : id_of (entry_block g bytes s n) ≡ reserved_id → renewed_by (get_or (view_at (views_in g bytes) s).entries n no_entry).head count es ≡ none
+    pub reserved-renews : id_of (entry_block g bytes s n) ≡ reserved_id → renewed_by (get_or (view_at (views_in g bytes) s).entries n no_entry).head count es ≡ None
     unfolding renewed_by head_by
     reserved-renews reserved = renewed-by-fields ∙ rw (eq-eqb _ reserved_id reserved)
 

@@ -36,11 +36,11 @@ module _ (u s : ℕ) (views : List View) where
   unfolding needs_of
   needs-none n past = ap needs_of (chosen-end (live_flags_in u s views) (view_at views s).entries (length-live-in u s views) n past)
 
-module _ (g : Geometry) (bytes : List ℕ) (backs : Backs g bytes) (u s : ℕ) (inside : s < sectors_of g) where
-  pub needs-here : (n : ℕ) → n < length (view_at (views_in g bytes) s).entries → get_or (live_flags_in u s (views_in g bytes)) n false ≡ true
+module _ (g : Geometry) (bytes : List ℕ) (u s : ℕ) (inside : s < sectors_of g) where
+  pub needs-here : Backs g bytes → (n : ℕ) → n < length (view_at (views_in g bytes) s).entries → get_or (live_flags_in u s (views_in g bytes)) n false ≡ true
       → needs_from u s (views_in g bytes) n ≡ 1 + data_blocks (length_of (entry_block g bytes s n)) + needs_from u s (views_in g bytes) (n + 1)
   unfolding needs_of
-  needs-here n here live =
+  needs-here backs n here live =
       let views : List View = views_in g bytes in
       ap needs_of (chosen-here (live_flags_in u s views) (view_at views s).entries (length-live-in u s views) n no_entry here live)
       ∙ ap (λ (k : ℕ). k + needs_from u s views (n + 1)) (live-need g bytes backs s n inside here u live)
@@ -50,4 +50,4 @@ module _ (g : Geometry) (bytes : List ℕ) (backs : Backs g bytes) (u s : ℕ) (
   unfolding live_in
   needs-few =
       let views : List View = views_in g bytes in
-      omega (arith, live-needs (view_at views s).entries (entries_in (newer_than u s views)), (entries-counted g bytes s inside backs.sound).values)
+      omega (arith, live-needs (view_at views s).entries (entries_in (newer_than u s views)), (entries-counted g bytes s inside).values)

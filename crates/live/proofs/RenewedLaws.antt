@@ -3,7 +3,7 @@
 use mathlib.Core.Path.{◌≡◌, refl, sym, ap, ap₂, ◌∙◌}
 use mathlib.Core.Bool.{Bool, true, false, not, ◌&&◌, ◌||◌, or-true, or-false}
 use mathlib.Core.List.{List, [], ◌∷◌, ◌++◌, append_assoc}
-use mathlib.Core.Option.{Option, none, some}
+use Rattle.std.specs.Prelude.{Option, Some, None}
 use Prim.Native.Nat.{ℕ, zero, suc, ◌<◌}
 use native.Mathlib.Nat.{le_of_suc-le-suc}
 use native.Mathlib.Omega.{arith}
@@ -15,7 +15,7 @@ use Rattle.rules.specs.Notation.{any}
 use Rattle.rules.specs.Look.{Head, done, deletion, value}
 use Rattle.rules.specs.Reading.{Entry, View}
 use Rattle.rules.specs.Meaning.{view_at, entries_in, is_named, is_value, is_renewed, newer_than}
-use Rattle.rules.proofs.Basics.Notation.{by-test, when_true, when_false}
+use Rattle.rules.proofs.Basics.Notation.{by-test}
 use Rattle.rules.proofs.Basics.Places.{any_append}
 use Rattle.rules.proofs.Ring.Changes.{are_named, named-left}
 use Rattle.image.specs.Answer.{no_entry}
@@ -47,17 +47,17 @@ live-by-renewed u s views = live-not-renewed (view_at views s).entries (entries_
 
 -- the flags with one of them set, if there is one to set
 unfoldable pub with_mark : Option ℕ → List Bool → List Bool
-with_mark none flags = flags
-with_mark (some m) flags = set flags m true
+with_mark None flags = flags
+with_mark (Some m) flags = set flags m true
 
 -- an entry in front: its own flag is set where it is the last one of the ID
 mark-behind : (first : Bool) (o : Option ℕ) (f : Bool) (flags : List Bool)
     → (f || (first && not (is_found o))) ∷ with_mark o flags ≡ with_mark (behind first o) (f ∷ flags)
 unfolding with_mark behind is_found
-mark-behind true none f flags = rw (or-true, when_true)
-mark-behind false none f flags = rw (or-false, when_false)
-mark-behind true (some m) f flags = rw or-false
-mark-behind false (some m) f flags = rw or-false
+mark-behind true None f flags = rw or-true
+mark-behind false None f flags = rw or-false
+mark-behind true (Some m) f flags = rw or-false
+mark-behind false (Some m) f flags = rw or-false
 
 -- an entry is renewed by one of its own ID, wherever it stands
 renewed-append : (h : Head) (xs ys : List Entry) → is_renewed h (xs ++ ys) ≡ (is_renewed h xs || is_renewed h ys)

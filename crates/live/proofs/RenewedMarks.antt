@@ -3,7 +3,8 @@
 use mathlib.Core.Path.{◌≡◌, refl, sym, ap, ◌∙◌}
 use mathlib.Core.Bool.{Bool, true, false}
 use mathlib.Core.List.{List, [], ◌∷◌, ◌++◌, append_assoc}
-use mathlib.Core.Option.{Option, none, some, none-ne-some}
+use Rattle.std.specs.Prelude.{Option, Some, None}
+use Rattle.std.proofs.lemmas.Option.{none-some}
 use Prim.Native.Nat.{ℕ, ◌+◌, ◌-◌, ◌<◌, ◌≤◌}
 use native.Mathlib.Numerals.{add-one}
 use native.Mathlib.Omega.{arith}
@@ -15,41 +16,35 @@ use Rattle.mask.specs.Flags.{padded}
 use Rattle.mask.specs.Marks.{max_marks}
 use Rattle.mask.proofs.Padded.{padded-next, padded-unset}
 use Rattle.image.specs.Answer.{no_entry}
-use Rattle.search.specs.declared.Hit.TheVariants as hit
-use Rattle.search.specs.Search.{hit_as}
-use Rattle.search.proofs.Seeking.{hit-at, hit-nothing}
 use Rattle.search.proofs.SearchLaws.{last-stands}
 use Rattle.live.specs.Live.{renewed_flags, renewed_by}
 use Rattle.live.proofs.RenewedLaws.{length-renewed, with_mark, one_later, one_more}
 
 -- the entry that is renewed is one of those looked at
-renewed-below : (h : Head) (count : ℕ) (es : List Entry) {m : ℕ} → renewed_by h count es ≡ some m → m < count
+pub renewed-below : (h : Head) (count : ℕ) (es : List Entry) {m : ℕ} → renewed_by h count es ≡ Some m → m < count
 unfolding renewed_by
-renewed-below done count es {m} is = absurd (none-ne-some m is)
+renewed-below done count es {m} is = absurd (none-some m is)
 renewed-below (deletion i) count es {m} is = (last-stands i es count m is).0
 renewed-below (value i len) count es {m} is = (last-stands i es count m is).0
 
 -- ---- the answer of a search, noted
 
-pub hit-below : (h : Head) (count : ℕ) (es : List Entry) {m : ℕ} → hit_as (renewed_by h count es) ≡ hit.At m → m < count
-hit-below h count es is = renewed-below h count es (hit-at (renewed_by h count es) is)
-
-module _ (o : Option ℕ) (flags : List Bool) where
-  pub mark-found : {n : ℕ} → hit_as o ≡ hit.At n → set flags n true ≡ with_mark o flags
+module _ {o : Option ℕ} (flags : List Bool) where
+  pub mark-found : {n : ℕ} → o ≡ Some n → set flags n true ≡ with_mark o flags
   unfolding with_mark
-  mark-found is = rw (hit-at o is)
+  mark-found is = rw is
 
-  pub mark-missed : hit_as o ≡ hit.Nothing → flags ≡ with_mark o flags
+  pub mark-missed : o ≡ None → flags ≡ with_mark o flags
   unfolding with_mark
-  mark-missed is = rw (hit-nothing o is)
+  mark-missed is = rw is
 
 -- ---- marks with none set behind them
 
 module _ (room : ℕ) (flags : List Bool) where
-  mark-padded : (o : Option ℕ) → ((m : ℕ) → o ≡ some m → m < length flags) → with_mark o (padded room flags) ≡ padded room (with_mark o flags)
+  mark-padded : (o : Option ℕ) → ((m : ℕ) → o ≡ Some m → m < length flags) → with_mark o (padded room flags) ≡ padded room (with_mark o flags)
   unfolding with_mark padded
-  mark-padded none low = refl
-  mark-padded (some m) low =
+  mark-padded None low = refl
+  mark-padded (Some m) low =
       set-append_left flags (replicate (room - length flags) false) m true (low m refl)
       ∙ ap (λ (n : ℕ). set flags m true ++ replicate (room - n) false) (sym (length-set flags m true))
 
@@ -59,8 +54,8 @@ module _ (room : ℕ) (flags : List Bool) where
 
 length-mark : (o : Option ℕ) (flags : List Bool) → length (with_mark o flags) ≡ length flags
 unfolding with_mark
-length-mark none flags = refl
-length-mark (some m) flags = length-set flags m true
+length-mark None flags = refl
+length-mark (Some m) flags = length-set flags m true
 
 module _ (es : List Entry) {marks after : List Bool} where
   -- entry n of the sector itself

@@ -1,4 +1,4 @@
--- The crate's answers for live values, and for the room for an entry.
+-- The counts of entries, and the crate's answers for live values.
 pub mod Counts
+pub mod Counted
 pub mod Live
-pub mod Fit

@@ -1,6 +1,5 @@
 -- Which entries of a sector are live, and which have a later one of their ID: a flag an entry, the oldest first.
-use Rattle.std.specs.Prelude.{Bool, not, ◌&&◌, List, [], ◌∷◌, ◌++◌, ℕ}
-use Rattle.std.proofs.Math.Option.{Option, none}
+use Rattle.std.specs.Prelude.{Bool, not, ◌&&◌, List, [], ◌∷◌, ◌++◌, ℕ, Option, None}
 use Rattle.rules.specs.Look.{Head, done, deletion, value}
 use Rattle.rules.specs.Reading.{Entry, View}
 use Rattle.rules.specs.Meaning.{view_at, entries_in, is_value, is_renewed, newer_than}
@@ -26,6 +25,6 @@ renewed_flags_in u s views = renewed_flags (view_at views s).entries (entries_in
 
 -- the entry, of the first `count`, that an entry with this head renews: the last one of its ID
 unfoldable pub renewed_by : Head → (count : ℕ) → List Entry → Option ℕ
-renewed_by done count es = none
+renewed_by done count es = None
 renewed_by (deletion i) count es = last_named_below i count es
 renewed_by (value i len) count es = last_named_below i count es

@@ -1,57 +1,74 @@
 // How many entries each sector has, by its number: what live values are found by.
-ghost use Rattle.std.specs.Prelude.{◌≡◌, ◌<◌, ◌≤◌, length, set};
+ghost use Rattle.std.specs.Prelude.{◌≡◌, ◌<◌, ◌≤◌, length};
 ghost use Rattle.rules.specs.Ground.{max_sectors};
 ghost use Rattle.rules.specs.Meaning.{view_at, next};
 ghost use Rattle.layout.specs.Numbers.{sector_no};
-ghost use Rattle.layout.specs.Geometry.{sectors_of, Backs};
-ghost use Rattle.image.specs.Answer.{views_in};
+ghost use Rattle.layout.specs.Geometry.{sectors_of};
+ghost use Rattle.image.specs.Answer.{views};
 ghost use Rattle.live.specs.Counts.{Counts};
 
 use image::active::Active;
 use image::ring;
-use layout::{Geometry, Sector};
+use layout::{Geometry, Image, Sector};
+
+// The counts. Those behind the last sector are free.
+#[derive(Clone, Copy)]
+pub struct EntryCounts([u16; Geometry::MAX_SECTORS]);
+
+// An image, the entries of its sectors counted, and the sector that its newest entries are in: at rest the working one.
+// The sector after that is ignored: at rest it is the spare, in mid-turn the unfinished one.
+#[derive(Clone, Copy)]
+pub struct Counted<'a> {
+    pub image: Image<'a>,
+    pub counts: &'a EntryCounts,
+    pub newest: Sector,
+    pub ghost counted: { Counts (views image) counts.now },
+    pub ghost inside: { sector_no newest < sectors_of image.geometry },
+}
 
 // The entries of sector s, counted.
-fn count_at(image: &[u8], g: Geometry, s: Sector) -> u16
-    requires backs { Backs g image.now }
-    requires s_bound { sector_no s < sectors_of g }
-    ensures { result ≡ length (view_at (views_in g image.now) (sector_no s)).entries }
+fn count_at(image: &Image, s: Sector) -> u16
+    requires s_bound { sector_no s < sectors_of image.now.geometry }
+    ensures { result ≡ length (view_at (views image.now) (sector_no s)).entries }
 {
-    let cycle = sector::cycle_at(image, g, s);
-    let entries = sector::take_entries(layout::sector_bytes(image, g, s), g, cycle);
+    let cycle = sector::cycle_at(image, s);
+    let entries = sector::take_entries(&image.sector(s), cycle);
     entries.count as u16
 }
 
-// Counts those of all sectors.
-pub fn entry_counts(image: &[u8], g: Geometry) -> [u16; Geometry::MAX_SECTORS]
-    requires { Backs g image.now }
-    ensures { Counts (views_in g image.now) result }
-{
-    let sectors = g.sectors();
-    let mut counts = [0u16; Geometry::MAX_SECTORS];
-    let mut s = 0;
-    while s < sectors {
-        counts[s] = count_at(image, g, Sector::new(s));
-        s += 1;
-    }
-    counts
-}
+impl EntryCounts {
+    ghost use Rattle.live.specs.Counts.{count_of, counts_turned};
 
-// The counts after a turn: the sector that was turned to has its entries, the one after it none.
-pub fn turned(
-    counts: [u16; Geometry::MAX_SECTORS],
-    g: Geometry,
-    active: Active,
-) -> [u16; Geometry::MAX_SECTORS]
-    requires sector_bound { sector_no active.sector < sectors_of g }
-    requires g_bound { sectors_of g ≤ max_sectors }
-    requires entries_bound { active.entries ≤ 4096 }
-    ensures { result ≡ set (set counts (sector_no active.sector) active.entries) (next (sectors_of g) (sector_no active.sector)) 0 }
-{
-    let here = active.sector.number();
-    let after = ring::next_sector(g, active.sector).number();
-    let mut all = counts;
-    all[here] = active.entries as u16;
-    all[after] = 0;
-    all
+    // Counts the entries of all sectors.
+    pub fn of(image: &Image) -> EntryCounts
+        ensures { Counts (views image.now) result }
+    {
+        let mut counts = [0u16; Geometry::MAX_SECTORS];
+        for s in 0..image.geometry.sectors() {
+            counts[s] = count_at(image, Sector::new(s));
+        }
+        EntryCounts(counts)
+    }
+
+    // How many entries sector s has.
+    pub fn at(&self, s: Sector) -> usize
+        requires { sector_no s < max_sectors }
+        ensures { result ≡ count_of self.now (sector_no s) }
+    {
+        self.0[s.number()] as usize
+    }
+
+    // The counts after a turn: the sector that was turned to has its entries, the one after it none.
+    pub fn turned(&self, g: Geometry, active: Active) -> EntryCounts
+        requires sector_bound { sector_no active.sector < sectors_of g }
+        requires entries_bound { active.entries ≤ 4096 }
+        ensures { result ≡ counts_turned self.now (sector_no active.sector) (next (sectors_of g) (sector_no active.sector)) active.entries }
+    {
+        let here = active.sector.number();
+        let after = ring::next_sector(g, active.sector).number();
+        let mut all = self.0;
+        all[here] = active.entries as u16;
+        all[after] = 0;
+        EntryCounts(all)
+    }
 }

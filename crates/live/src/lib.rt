@@ -4,106 +4,84 @@ pub mod counts;
 pub mod fit;
 mod renewed;
 
-ghost use Rattle.std.specs.Prelude.{◌≡◌, false, not, ◌&&◌, ◌-◌, ◌+◌, ◌≤◌, ◌<◌, length, get_or};
-ghost use Rattle.rules.specs.Ground.{block_at, image_of};
+ghost use Rattle.std.specs.Prelude.{◌≡◌, false, not, ◌&&◌, ◌-◌, ◌+◌, ◌<◌, get_or};
+ghost use Rattle.rules.specs.Ground.{block_at};
 ghost use Rattle.rules.specs.Entry.{length_of};
 ghost use Rattle.rules.specs.Look.{data_blocks};
-ghost use Rattle.rules.specs.Meaning.{view_at, next, is_value, needs_of, live_in};
+ghost use Rattle.rules.specs.Meaning.{is_value, needs_of, live_in};
 ghost use Rattle.layout.specs.Numbers.{sector_no};
-ghost use Rattle.layout.specs.Geometry.{blocks_of, sectors_of, Backs};
+ghost use Rattle.layout.specs.Geometry.{blocks_of, sectors_of};
 ghost use Rattle.mask.specs.Flags.{padded};
 ghost use Rattle.mask.specs.Marks.{max_marks, marks_of};
-ghost use Rattle.image.specs.Answer.{no_entry, views_in};
-ghost use Rattle.live.specs.Counts.{Counts};
+ghost use Rattle.image.specs.Answer.{views};
+ghost use Rattle.image.specs.EntriesIn.{block_of, entry_of};
+ghost use Rattle.live.specs.Counted.{ignored};
 ghost use Rattle.live.specs.Live.{live_flags_in};
 
+use counts::Counted;
 use entry::look;
-use image::entries;
+use image::entries::EntryAt;
 use layout::{Geometry, Sector};
 use mask::marks::Marks;
 
-// What the value that is entry n of sector s needs: its own block, and its data blocks.
-fn value_need(image: &[u8], g: Geometry, s: Sector, n: usize) -> usize
-    requires backs { Backs g image.now }
-    requires s_bound { sector_no s < sectors_of g }
-    requires n_bound { n + 3 ≤ blocks_of g }
-    ensures { result ≡ 1 + data_blocks (length_of (block_at (image_of (blocks_of g) (sectors_of g) image.now) (sector_no s) (blocks_of g - 3 - n))) }
+// What an entry that is a value needs: its own block, and its data blocks.
+fn value_need(entry: &EntryAt) -> usize
+    ensures { result ≡ 1 + data_blocks (length_of (block_of entry.now)) }
 {
-    let block = entries::entry_block(image, g, s, n);
-    1 + look::data_blocks(look::length_in(block) as usize)
+    1 + look::data_blocks(look::length_in(entry.block()) as usize)
 }
 
-// Is entry n of sector s a value, and not one of those that have a later one of their ID?
-fn is_live(image: &[u8], g: Geometry, s: Sector, n: usize, renewed: Marks) -> bool
-    requires backs { Backs g image.now }
-    requires s_bound { sector_no s < sectors_of g }
-    requires n_in_bounds { n < length (view_at (views_in g image.now) (sector_no s)).entries }
-    ensures { result ≡ (is_value (get_or (view_at (views_in g image.now) (sector_no s)).entries n no_entry).head && not (get_or (marks_of renewed) n false)) }
+// Is the entry a value, and not one of those of its sector that have a later one of their ID?
+fn is_live(entry: &EntryAt, renewed: Marks) -> bool
+    ensures { result ≡ (is_value (entry_of entry.now).head && not (get_or (marks_of renewed) entry.now.number false)) }
 {
-    let block = entries::entry_block(image, g, s, n);
+    let block = entry.block();
     if look::id_in(block) == Geometry::RESERVED_ID {
         return false;
     }
     if look::length_in(block) == 0 {
         return false;
     }
-    !renewed.has(n)
+    !renewed.has(entry.number)
 }
 
-// The entries of sector s that are live values. The sector after w is ignored: the spare at rest, the unfinished one mid-turn.
-pub fn marks(
-    image: &[u8],
-    g: Geometry,
-    counts: [u16; Geometry::MAX_SECTORS],
-    w: Sector,
-    s: Sector,
-) -> Marks
-    requires backs { Backs g image.now }
-    requires counts { Counts (views_in g image.now) counts }
-    requires w_bound { sector_no w < sectors_of g }
-    requires s_bound { sector_no s < sectors_of g }
-    requires not_spare { sector_no s ≡ next (sectors_of g) (sector_no w) → ⊥ }
-    ensures { marks_of result ≡ padded max_marks (live_flags_in (next (sectors_of g) (sector_no w)) (sector_no s) (views_in g image.now)) }
+// The entries of sector s that are live values.
+pub fn marks(counted: &Counted, s: Sector) -> Marks
+    requires s_bound { sector_no s < sectors_of counted.now.image.geometry }
+    requires not_spare { sector_no s ≡ ignored counted.now → ⊥ }
+    ensures { marks_of result ≡ padded max_marks (live_flags_in (ignored counted.now) (sector_no s) (views counted.now.image)) }
 {
-    let renewed = renewed::marks(image, g, counts, w, s);
-    let number = s.number();
-    let entries = counts[number] as usize;
+    let renewed = renewed::marks(counted, s);
     let mut live = Marks::none();
-    let mut n = 0;
-    while n < entries {
-        if is_live(image, g, s, n, renewed) {
+    for n in 0..counted.counts.at(s) {
+        let entry = EntryAt {
+            image: counted.image,
+            sector: s,
+            number: n,
+        };
+        if is_live(&entry, renewed) {
             live = live.add(n);
         }
-        n += 1;
     }
     live
 }
 
 // What the live values of sector s need together.
-pub fn needs(
-    image: &[u8],
-    g: Geometry,
-    counts: [u16; Geometry::MAX_SECTORS],
-    w: Sector,
-    s: Sector,
-) -> usize
-    requires backs { Backs g image.now }
-    requires counts { Counts (views_in g image.now) counts }
-    requires w_bound { sector_no w < sectors_of g }
-    requires s_bound { sector_no s < sectors_of g }
-    requires not_spare { sector_no s ≡ next (sectors_of g) (sector_no w) → ⊥ }
-    ensures { result ≡ needs_of (live_in (next (sectors_of g) (sector_no w)) (sector_no s) (views_in g image.now)) }
+pub fn needs(counted: &Counted, s: Sector) -> usize
+    requires s_bound { sector_no s < sectors_of counted.now.image.geometry }
+    requires not_spare { sector_no s ≡ ignored counted.now → ⊥ }
+    ensures { result ≡ needs_of (live_in (ignored counted.now) (sector_no s) (views counted.now.image)) }
 {
-    let live = marks(image, g, counts, w, s);
-    let number = s.number();
-    let count = counts[number] as usize;
+    let live = marks(counted, s);
     let mut sum = 0;
-    let mut i = 0;
-    while i < count {
-        if live.has(i) {
-            sum += value_need(image, g, s, i);
+    for n in 0..counted.counts.at(s) {
+        if live.has(n) {
+            sum += value_need(&EntryAt {
+                image: counted.image,
+                sector: s,
+                number: n,
+            });
         }
-        i += 1;
     }
     sum
 }

@@ -10,16 +10,10 @@ ghost use Rattle.mask.specs.Flags.{flags_of, sectors_in, is_singleton, Holds};
 
 use layout::Sector;
 
-// A set of sectors. That it is a word is known here alone.
+// A set of sectors. That it is a word is known here alone. (Marks of one word would be no plainer: is_one
+// and which count the bits of a word, and add would have to find the word first.)
 #[derive(Clone, Copy)]
 pub struct Mask(u64);
-
-// A count of bits, in the width of sector numbers.
-fn wide(bits: u32) -> usize
-    ensures { result ≡ bits }
-{
-    bits as usize
-}
 
 impl Mask {
     // The empty set.
@@ -47,7 +41,7 @@ impl Mask {
     pub fn is_one(self) -> bool
         ensures { result ≡ is_singleton (sectors_in self) }
     {
-        u64::count_ones(self.0) == 1
+        self.0.count_ones() == 1
     }
 
     // The one sector in it.
@@ -55,6 +49,6 @@ impl Mask {
         requires { is_singleton (sectors_in self) ≡ true }
         ensures { sectors_in self ≡ sector_no result ∷ [] }
     {
-        Sector::new(wide(u64::trailing_zeros(self.0)))
+        Sector::new(self.0.trailing_zeros() as usize)
     }
 }

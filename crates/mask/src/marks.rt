@@ -27,7 +27,7 @@ impl Marks {
     {
         let mut words = self.0;
         let at = n / WORD;
-        words[at] = words[at] | 1u64 << (n % WORD);
+        words[at] |= 1u64 << (n % WORD);
         Marks(words)
     }
 

@@ -3,27 +3,27 @@
 use mathlib.Core.Path.{◌≡◌, refl, ap, ◌∙◌}
 use mathlib.Core.Bool.{Bool, true, false, ◌||◌, or-true}
 use mathlib.Core.List.{List, [], ◌∷◌}
-use mathlib.Core.Option.{Option, none, some}
+use Rattle.std.specs.Prelude.{Option, Some, None, if◌then◌else◌}
 use Prim.Native.Nat.{ℕ, zero, suc, ◌≤◌}
 use native.Mathlib.Omega.{arith}
 use lib.ListN.{length, get_or, take}
 use lib.Seq.{get_or-take}
-use Rattle.rules.specs.Notation.{when, any}
+use Rattle.rules.specs.Notation.{any}
 use Rattle.rules.specs.Reading.{Entry}
 use Rattle.rules.specs.Meaning.{is_named}
-use Rattle.rules.proofs.Basics.Notation.{by-test, when_true, when_false}
+use Rattle.rules.proofs.Basics.Notation.{by-test}
 use Rattle.rules.proofs.Ring.Changes.{are_named}
 use Rattle.image.specs.Answer.{no_entry}
 use Rattle.search.specs.Search.{last_named_below, last_named}
 
 -- An entry in front moves the last one up by one place, and is itself the last one where there is no other.
 unfoldable pub behind : (first : Bool) → Option ℕ → Option ℕ
-behind first none = when first 0
-behind first (some m) = some (suc m)
+behind first None = if first then Some 0 else None
+behind first (Some m) = Some (suc m)
 
 pub last-behind : (id n : ℕ) (x : Entry) (es : List Entry) → last_named_below id (suc n) (x ∷ es) ≡ behind (is_named id x.head) (last_named_below id n es)
 unfolding last_named_below behind
-last-behind id zero x es = by-test (is_named id x.head) (λ t. rw (t, when_true)) (λ f. rw (f, when_false))
+last-behind id zero x es = by-test (is_named id x.head) (λ t. rw t) (λ f. rw f)
 last-behind id (suc n) x es =
     by-test (is_named id (get_or es n no_entry).head)
     (λ t. simp t)
@@ -31,14 +31,14 @@ last-behind id (suc n) x es =
 
 -- is there one?
 unfoldable pub is_found : Option ℕ → Bool
-is_found none = false
-is_found (some n) = true
+is_found None = false
+is_found (Some n) = true
 
 found-behind : (first : Bool) (o : Option ℕ) → is_found (behind first o) ≡ (first || is_found o)
 unfolding is_found behind
-found-behind true none = rw when_true
-found-behind false none = rw when_false
-found-behind first (some m) = rw or-true
+found-behind true None = refl
+found-behind false None = refl
+found-behind first (Some m) = rw or-true
 
 -- there is a last one exactly where one of them names the ID
 pub found : (id : ℕ) (es : List Entry) → is_found (last_named id es) ≡ are_named id es

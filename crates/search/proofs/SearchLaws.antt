@@ -4,7 +4,9 @@ use mathlib.Core.Path.{◌≡◌, refl, sym, ap, ap₂, subst, ◌∙◌}
 use mathlib.Core.Bool.{true}
 use mathlib.Core.List.{List, ◌++◌, append-nil}
 use mathlib.Core.Logic.{⊎_elim}
-use mathlib.Core.Option.{Option, none, some, some-injective, none-ne-some}
+use mathlib.Core.Option as rule
+use Rattle.std.specs.Prelude.{Option, Some, None}
+use Rattle.std.proofs.lemmas.Option.{same_Some, none-some, some_pair_parts}
 use Prim.Native.Nat.{ℕ, zero, suc, ◌-◌, ◌<◌, ◌≤◌}
 use native.Mathlib.Omega.{arith}
 use lib.ListN.{length, get_or, take}
@@ -19,7 +21,6 @@ use Rattle.layout.specs.declared.Geometry.{Geometry}
 use Rattle.layout.specs.declared.Sector.{Sector}
 use Rattle.layout.specs.Geometry.{sectors_of}
 use Rattle.layout.specs.Numbers.{sector_no, sector_at}
-use Rattle.search.specs.declared.Newest.TheVariants as newest
 use Rattle.image.specs.Answer.{no_entry}
 use Rattle.search.specs.Search.{last_named_below, last_named, in_sector, seek, newest_as, told_at}
 use Rattle.image.specs.Answer.{views_in}
@@ -29,9 +30,9 @@ use Rattle.search.proofs.Seeking.{last-here, last-below}
 -- ---- what it tells
 
 -- what a sector's entries tell where the older ones tell this
-tells : List Entry → Option ℕ → Option Entry → Option Entry
-tells es none older = older
-tells es (some n) older = when (is_value (get_or es n no_entry).head) (get_or es n no_entry)
+tells : List Entry → Option ℕ → rule.Option Entry → rule.Option Entry
+tells es None older = older
+tells es (Some n) older = when (is_value (get_or es n no_entry).head) (get_or es n no_entry)
 
 tells-below : (id : ℕ) (older es : List Entry) (n : ℕ) → n ≤ length es
     → lookup id (older ++ take n es) ≡ tells es (last_named_below id n es) (lookup id older)
@@ -52,8 +53,8 @@ tells_all id older es =
 tells-in : (views : List View) (s : ℕ) (o : Option ℕ) (older : Option (ℕ × ℕ))
     → tells (view_at views s).entries o (told_at views older) ≡ told_at views (in_sector s o older)
 unfolding tells told_at in_sector
-tells-in views s none older = refl
-tells-in views s (some n) older = refl
+tells-in views s None older = refl
+tells-in views s (Some n) older = refl
 
 module _ (id u : ℕ) (views : List View) (here : u < length views) where
   ring-tells : (k : ℕ) → k ≤ length views - 1
@@ -87,33 +88,33 @@ pub record StandsAt (id : ℕ) (views : List View) (s n : ℕ) : Type 0 where
   pub named : is_named id (get_or (view_at views s).entries n no_entry).head ≡ true
 
 -- the entry with the last number names the ID, and there is one of that number
-pub last-stands : (id : ℕ) (es : List Entry) (m n : ℕ) → last_named_below id m es ≡ some n → (n < m) × (is_named id (get_or es n no_entry).head ≡ true)
+pub last-stands : (id : ℕ) (es : List Entry) (m n : ℕ) → last_named_below id m es ≡ Some n → (n < m) × (is_named id (get_or es n no_entry).head ≡ true)
 unfolding last_named_below
-last-stands id es zero n e = absurd (none-ne-some n e)
+last-stands id es zero n e = absurd (none-some n e)
 last-stands id es (suc m) n e =
     ⊎_elim
     (λ t.
-    let same : m ≡ n = some-injective m n t.1 in
+    let same : m ≡ n = same_Some m n t.1 in
     (omega arith, subst (λ (i : ℕ). is_named id (get_or es i no_entry).head ≡ true) same t.0))
     (λ f. let below = last-stands id es m n f.1 in (omega (arith, below.0), below.1))
-    (if-cases (is_named id (get_or es m no_entry).head) (some m) (last_named_below id m es) e)
+    (if-cases (is_named id (get_or es m no_entry).head) (Some m) (last_named_below id m es) e)
 
 module _ (id u : ℕ) (views : List View) (here : u < length views) where
   -- so it is with the entry of a sector, or of an older one
   in-stands : (s : ℕ) → s < length views → (o : Option ℕ) (older : Option (ℕ × ℕ)) → last_named id (view_at views s).entries ≡ o
-      → ((place : ℕ × ℕ) → older ≡ some place → StandsAt id views place.0 place.1)
-      → (place : ℕ × ℕ) → in_sector s o older ≡ some place → StandsAt id views place.0 place.1
+      → ((place : ℕ × ℕ) → older ≡ Some place → StandsAt id views place.0 place.1)
+      → (place : ℕ × ℕ) → in_sector s o older ≡ Some place → StandsAt id views place.0 place.1
   unfolding in_sector last_named
-  in-stands s inside none older last before place e = before place e
-  in-stands s inside (some n) older last before place e =
+  in-stands s inside None older last before place e = before place e
+  in-stands s inside (Some n) older last before place e =
       let stands = last-stands id (view_at views s).entries (length (view_at views s).entries) n last in
-      subst (λ (p : ℕ × ℕ). StandsAt id views p.0 p.1) (some-injective (s, n) place e)
+      subst (λ (p : ℕ × ℕ). StandsAt id views p.0 p.1) (same_Some (s, n) place e)
       (record { sector = inside; entry = stands.0; named = stands.1 })
 
-  pub seek-stands : (k : ℕ) → k ≤ length views → (place : ℕ × ℕ) → seek id (length views) u k views ≡ some place
+  pub seek-stands : (k : ℕ) → k ≤ length views → (place : ℕ × ℕ) → seek id (length views) u k views ≡ Some place
       → StandsAt id views place.0 place.1
   unfolding seek
-  seek-stands zero h place e = absurd (none-ne-some place e)
+  seek-stands zero h place e = absurd (none-some place e)
   seek-stands (suc k) h place e =
       let s : ℕ = ring_sector (length views) u k in
       in-stands s (ring-lt (length views) u here k h) (last_named id (view_at views s).entries) (seek id (length views) u k views) refl
@@ -121,11 +122,11 @@ module _ (id u : ℕ) (views : List View) (here : u < length views) where
 
 -- so it is with the entry that is sought in an image
 module _ (g : Geometry) (bytes : List ℕ) (id w : ℕ) (inside : w < sectors_of g) where
-  pub sought-stands : (place : ℕ × ℕ) → seek id (sectors_of g) (next (sectors_of g) w) (sectors_of g - 1) (views_in g bytes) ≡ some place
+  pub sought-stands : (place : ℕ × ℕ) → seek id (sectors_of g) (next (sectors_of g) w) (sectors_of g - 1) (views_in g bytes) ≡ Some place
       → StandsAt id (views_in g bytes) place.0 place.1
   sought-stands place =
       let views : List View = views_in g bytes in
-      subst (λ (S : ℕ). w < S → seek id S (next S w) (S - 1) views ≡ some place → StandsAt id views place.0 place.1) (views-count g bytes)
+      subst (λ (S : ℕ). w < S → seek id S (next S w) (S - 1) views ≡ Some place → StandsAt id views place.0 place.1) (views-count g bytes)
       (λ here e. seek-stands id (next (length views) w) views (next-lt (length views) w here) (length views - 1) (omega arith) place e)
       inside
 
@@ -139,13 +140,12 @@ module _ (g : Geometry) (bytes : List ℕ) (id w : ℕ) (inside : w < sectors_of
 
 -- ---- the answer, read back
 
-pub newest-at : (o : Option (ℕ × ℕ)) {s : Sector} {n : ℕ} → newest_as o ≡ newest.Entry s n → o ≡ some (sector_no s, n)
-newest-at none {s} {n} e = let z : ◌≡◌ {A = ℕ} 0 1 = cc in absurd (omega arith)
-newest-at (some place) {s} {n} e =
-    let sector : sector_at place.0 ≡ s = cc in
-    let number : place.1 ≡ n = cc in
-    ap₂ (λ (t m : ℕ). some (t, m)) (ap sector_no sector) number
+pub newest-at : (o : Option (ℕ × ℕ)) {s : Sector} {n : ℕ} → newest_as o ≡ Some (s, n) → o ≡ Some (sector_no s, n)
+newest-at None {s} {n} e = absurd (none-some _ e)
+newest-at (Some place) {s} {n} e =
+    let t = some_pair_parts (sector_at place.0) s place.1 n e in
+    ap₂ (λ (t m : ℕ). Some (t, m)) (ap sector_no t.0) t.1
 
-pub newest-nothing : (o : Option (ℕ × ℕ)) → newest_as o ≡ newest.Nothing → o ≡ none
-newest-nothing none e = refl
-newest-nothing (some place) e = let z : ◌≡◌ {A = ℕ} 0 1 = cc in absurd (omega arith)
+pub newest-none : (o : Option (ℕ × ℕ)) → newest_as o ≡ None → o ≡ None
+newest-none None e = refl
+newest-none (Some place) e = absurd (none-some _ (sym e))

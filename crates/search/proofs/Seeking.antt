@@ -2,27 +2,30 @@
 -- Assumes nothing.
 use mathlib.Core.Path.{◌≡◌, refl, sym, ap, ◌∙◌}
 use mathlib.Core.Bool.{true, false}
-use mathlib.Core.List.{List}
-use mathlib.Core.Option.{Option, none, some}
-use Prim.Native.Nat.{ℕ, suc, ◌+◌, ◌-◌, ◌*◌, ◌<◌, ◌≤◌}
+use mathlib.Core.List.{List, []}
+use Rattle.std.specs.Prelude.{Some, None}
+use Prim.Native.Nat.{ℕ, suc, ◌+◌, ◌-◌, ◌<◌, ◌≤◌}
 use native.Mathlib.Omega.{arith}
 use lib.Dec.{eqb}
-use lib.ListN.{length, get_or, take, drop}
-use Rattle.rules.specs.Ground.{block_size, reserved_id, sector_of}
+use lib.ListN.{length, get_or}
+use Rattle.rules.specs.Ground.{Block, reserved_id}
 use Rattle.rules.specs.Entry.{id_of}
 use Rattle.rules.specs.Reading.{Entry, View, view_of}
 use Rattle.rules.specs.Meaning.{view_at, next, previous, ring_sector, is_named}
 use Rattle.rules.proofs.Blocks.Counting.{counted}
 use Rattle.rules.proofs.Blocks.Lying.{lies_at}
 use Rattle.rules.proofs.Ring.Newest.{named-id, previous-lt, ring-down, ring-working}
-use Rattle.search.specs.declared.Hit.TheVariants as hit
+use Rattle.layout.specs.declared.image.SectorBytes.{SectorBytes}
+use Rattle.layout.specs.Geometry.{blocks_of}
+use Rattle.layout.specs.Image.{blocks_in}
+use Rattle.sector.specs.Answer.{view_in}
 use Rattle.image.specs.Answer.{no_entry}
-use Rattle.search.specs.Search.{last_named_below, last_named, in_sector, seek, hit_as}
+use Rattle.search.specs.Search.{last_named_below, last_named, in_sector, seek}
 
 -- ---- down in a sector
 
 module _ (id : ℕ) (es : List Entry) where
-  pub last-here : {m : ℕ} (n : ℕ) → m ≡ suc n → is_named id (get_or es n no_entry).head ≡ true → last_named_below id m es ≡ some n
+  pub last-here : {m : ℕ} (n : ℕ) → m ≡ suc n → is_named id (get_or es n no_entry).head ≡ true → last_named_below id m es ≡ Some n
   unfolding last_named_below
   last-here n above named = rw (above, named)
 
@@ -30,7 +33,7 @@ module _ (id : ℕ) (es : List Entry) where
   unfolding last_named_below
   last-below n above other = rw (above, other)
 
-  pub last-of-none : {m : ℕ} → m ≡ 0 → last_named_below id m es ≡ none
+  pub last-of-none : {m : ℕ} → m ≡ 0 → last_named_below id m es ≡ None
   unfolding last_named_below
   last-of-none e = rw e
 
@@ -39,28 +42,18 @@ module _ (id : ℕ) (es : List Entry) where
   last-of-all = refl
 
 -- The blocks tell: the ID of entry n is that of block B-3-n.
-module _ (B : ℕ) (bytes : List ℕ) (enough : 8 ≤ B) where
-  pub entries-few : length (view_of B (sector_of B bytes)).entries + 3 ≤ B
+module _ (sector : SectorBytes) where
+  pub entries-few : length (view_in sector).entries + 3 ≤ blocks_of sector.geometry
   unfolding view_of
-  entries-few = (counted B _ (sector_of B bytes) enough).few
+  entries-few = (counted (blocks_of sector.geometry) _ (blocks_in sector) sector.geometry.sound.blocks_from).few
 
-  module _ (sized : length bytes ≡ B * block_size) (id : ℕ) (user : id ≡ reserved_id → ⊥) where
-    pub named_by : (n : ℕ) → n < length (view_of B (sector_of B bytes)).entries → {part : List ℕ}
-        → part ≡ take block_size (drop ((B - 3 - n) * block_size) bytes)
-        → is_named id (get_or (view_of B (sector_of B bytes)).entries n no_entry).head ≡ eqb (id_of part) id
-    unfolding view_of
-    named_by n here read =
-        let lies = lies_at B _ bytes enough sized n no_entry here in
-        named-id id user _ ∙ ap (λ (i : ℕ). eqb i id) (sym lies.id ∙ ap id_of (lies.own ∙ sym read))
-
--- the answer, read back
-pub hit-at : (o : Option ℕ) {n : ℕ} → hit_as o ≡ hit.At n → o ≡ some n
-hit-at none {n} e = let z : ◌≡◌ {A = ℕ} 0 1 = cc in absurd (omega arith)
-hit-at (some m) {n} e = cc
-
-pub hit-nothing : (o : Option ℕ) → hit_as o ≡ hit.Nothing → o ≡ none
-hit-nothing none e = refl
-hit-nothing (some m) e = let z : ◌≡◌ {A = ℕ} 0 1 = cc in absurd (omega arith)
+  pub named_by : (id n : ℕ) → (id ≡ reserved_id → ⊥) → n < length (view_in sector).entries → {block : Block}
+      → block ≡ get_or (blocks_in sector) (blocks_of sector.geometry - 3 - n) []
+      → is_named id (get_or (view_in sector).entries n no_entry).head ≡ eqb (id_of block) id
+  unfolding view_of
+  named_by id n user here read =
+      let lies = lies_at (blocks_of sector.geometry) _ sector.bytes.now sector.geometry.sound.blocks_from sector.whole n no_entry here in
+      named-id id user _ ∙ ap (λ (i : ℕ). eqb i id) (sym lies.id ∙ ap id_of (sym read))
 
 -- ---- down round the ring
 
@@ -85,12 +78,12 @@ module _ {id S u : ℕ} {views : List View} {left s : ℕ} (k : Seeking id S u v
       ap (λ (n : ℕ). seek id S u n views) above
       ∙ ap (λ (t : ℕ). in_sector t (last_named id (view_at views t).entries) (seek id S u (left - 1) views)) (sym (k.at more))
 
-  pub seeking-found : 0 < left → {n : ℕ} → last_named id (view_at views s).entries ≡ some n → seek id S u (S - 1) views ≡ some (s, n)
+  pub seeking-found : 0 < left → {n : ℕ} → last_named id (view_at views s).entries ≡ Some n → seek id S u (S - 1) views ≡ Some (s, n)
   unfolding in_sector
   seeking-found more named = sym k.rest ∙ seek-down more ∙ rw named
 
   -- one sector down
-  pub seeking-next : u < S → 0 < left → last_named id (view_at views s).entries ≡ none → {t : ℕ} → t ≡ previous S s
+  pub seeking-next : u < S → 0 < left → last_named id (view_at views s).entries ≡ None → {t : ℕ} → t ≡ previous S s
       → Seeking id S u views (left - 1) t
   unfolding in_sector
   seeking-next spare more other {t} before =
@@ -106,6 +99,6 @@ module _ {id S u : ℕ} {views : List View} {left s : ℕ} (k : Seeking id S u v
         rest = sym (seek-down more ∙ rw other) ∙ k.rest;
       }
 
-  pub seeking-end : left ≡ 0 → seek id S u (S - 1) views ≡ none
+  pub seeking-end : left ≡ 0 → seek id S u (S - 1) views ≡ None
   unfolding seek
   seeking-end none_left = sym k.rest ∙ ap (λ (n : ℕ). seek id S u n views) none_left

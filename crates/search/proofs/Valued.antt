@@ -1,9 +1,11 @@
 -- The value that an entry tells, where it lies: by the fields of the entry's block, and what a caller learns of it.
 -- Assumes nothing.
-use mathlib.Core.Path.{◌≡◌, refl, sym, ap, ◌∙◌}
+use mathlib.Core.Path.{◌≡◌, refl, sym, ap, subst, ◌∙◌}
 use mathlib.Core.Bool.{true, false}
 use mathlib.Core.List.{List}
-use mathlib.Core.Option.{Option, none, some}
+use mathlib.Core.Option as rule
+use Rattle.std.specs.Prelude.{Option, Some, None}
+use Rattle.std.proofs.lemmas.Option.{same_Some, none-some}
 use Prim.Native.Nat.{ℕ, ◌+◌, ◌*◌, ◌-◌, ◌<◌, ◌≤◌}
 use native.Mathlib.Omega.{arith}
 use lib.Dec.{ltb}
@@ -21,16 +23,12 @@ use Rattle.rules.proofs.Basics.Lists.{part-of-take}
 use Rattle.rules.proofs.Format.Ground.{place-in-sector, length-sector-bytes, sector-fits}
 use Rattle.rules.proofs.Blocks.Lying.{LiesAt}
 use Rattle.layout.specs.declared.Geometry.{Geometry}
-use Rattle.layout.specs.declared.Place.{Place}
 use Rattle.layout.specs.Geometry.{blocks_of, sectors_of, Backs}
 use Rattle.layout.specs.Numbers.{place_no, place_at}
-use Rattle.search.specs.declared.Check.{Check}
-use Rattle.search.specs.declared.Check.TheVariants as check
 use Rattle.search.specs.declared.Found.{Found}
-use Rattle.search.specs.declared.Found.TheVariants as found
 use Rattle.image.specs.Answer.{views_in}
 use Rattle.search.specs.Search.{seek, told_at}
-use Rattle.search.specs.Value.{entry_in, value_place, check_as, passes, found_in, found_as}
+use Rattle.search.specs.Value.{entry_in, value_place, check_as, passes, found_at, found_in, found_as}
 use Rattle.image.proofs.Sectors.{views-count}
 use Rattle.image.proofs.EntryBlocks.{entry-lies}
 use Rattle.search.proofs.SearchLaws.{sought-stands, sought-tells}
@@ -50,9 +48,9 @@ value-by (deletion id) n = absurd (n refl)
 value-by (value id len) n = refl
 
 -- What is told of an ID is a value: its bytes lie at a place, and the check is its own.
-pub record Holds (bytes : List ℕ) (present : Option Entry) (place len : ℕ) (check : Check) : Type 0 where
+pub record Holds (bytes : List ℕ) (present : rule.Option Entry) (place len : ℕ) (check : Option ℕ) : Type 0 where
   pub entry : Entry
-  pub told : present ≡ some entry
+  pub told : present ≡ rule.some entry
   pub length : length_in entry.head ≡ len
   pub lies : value_of entry ≡ take len (drop place bytes)
   pub inside : place + len ≤ lib.ListN.length bytes
@@ -83,20 +81,20 @@ module _ (g : Geometry) (bytes : List ℕ) (k : Backs g bytes) (s n : ℕ) (insi
 
   -- ---- the answer by the fields
 
-  pub found_none : length_of block ≡ 0 → found_in B im s n ≡ found.Nothing
+  pub found_none : length_of block ≡ 0 → found_in B im s n ≡ None
   unfolding found_in
   found_none zeroes = rw (refuted (is_value e.head) (λ v. (lies.valued.0 v).1 zeroes))
 
   pub found-small : 0 < length_of block → length_of block ≤ 8
-      → found_in B im s n ≡ found.Value (place_at (place_of B s (B - 3 - n) + 8)) (length_of block) check.Unchecked
-  unfolding found_in value_place check_as
+      → found_in B im s n ≡ Some (record { place = place_at (place_of B s (B - 3 - n) + 8); length = length_of block; check = None })
+  unfolding found_in found_at value_place check_as
   found-small one few =
       let short : is_long e.head ≡ false = long-by e.head ∙ le-ltb 8 (length_in e.head) (omega (arith, lies.length)) in
       simp (value-by e.head (λ z. omega (arith, lies.length)), short, lies.length)
 
   pub found-long : 8 < length_of block
-      → found_in B im s n ≡ found.Value (place_at (place_of B s 0 + offset_of block)) (length_of block) (check.Crc32 (crc32_of block))
-  unfolding found_in value_place check_as
+      → found_in B im s n ≡ Some (record { place = place_at (place_of B s 0 + offset_of block); length = length_of block; check = Some (crc32_of block) })
+  unfolding found_in found_at value_place check_as
   found-long many =
       let long : is_long e.head ≡ true = long-by e.head ∙ lt-ltb 8 (length_in e.head) (omega (arith, lies.length)) in
       simp (value-by e.head (λ z. omega (arith, lies.length)), long, lies.length, (lies.long long).check)
@@ -136,7 +134,7 @@ module _ (g : Geometry) (bytes : List ℕ) (k : Backs g bytes) (s n : ℕ) (insi
         from = (B - 3 - n) * block_size + 8;
         place = rw (short, own) (omega arith);
         lies-from = lies.short short;
-        fits = omega (arith, few, k.sound.blocks_from);
+        fits = omega (arith, few, g.sound.blocks_from);
       })
 
   -- and so in the image
@@ -160,57 +158,54 @@ module _ (g : Geometry) (bytes : List ℕ) (k : Backs g bytes) (s n : ℕ) (insi
       (λ short. simp short)
 
   -- so it is with what is answered for the entry
-  held : {place : Place} {len : ℕ} {check : Check} → found_in B im s n ≡ found.Value place len check
-      → Holds bytes (when (is_value e.head) e) (place_no place) len check
-  unfolding found_in
-  held {place} {len} {check} same =
-      let answer = found.Value (place_at (value_place B im s n e.head)) (length_in e.head) (check_as e) in
-      let t = took-then (is_value e.head) answer found.Nothing (λ x. let z : ◌≡◌ {A = ℕ} 0 1 = cc x in omega arith) same in
-      let at : place_at (value_place B im s n e.head) ≡ place = cc t.1 in
-      let long : length_in e.head ≡ len = cc t.1 in
-      let checks : check_as e ≡ check = cc t.1 in
-      record {
+  held : {found : Found} → found_in B im s n ≡ Some found
+      → Holds bytes (when (is_value e.head) e) (place_no found.place) found.length found.check
+  unfolding found_in found_at
+  held {found} same =
+      let t = took-then (is_value e.head) (Some (found_at B im s n e)) None (none-some found) same in
+      let answer : found_at B im s n e ≡ found = same_Some _ found t.1 in
+      subst (λ (f : Found). Holds bytes (when (is_value e.head) e) (place_no f.place) f.length f.check) answer
+      (record {
         entry = e;
         told = rw t.0 (when_true e);
-        length = long;
-        lies = rw (← long, ← at) value-lies;
-        inside = rw (← long, ← at) value-inside;
-        checked = rw (← checks) value-checked;
-      }
+        length = refl;
+        lies = value-lies;
+        inside = value-inside;
+        checked = value-checked;
+      })
 
-  not-held : found_in B im s n ≡ found.Nothing → when (is_value e.head) e ≡ none
+  not-held : found_in B im s n ≡ None → when (is_value e.head) e ≡ rule.none
   unfolding found_in
   not-held same =
-      let answer = found.Value (place_at (value_place B im s n e.head)) (length_in e.head) (check_as e) in
-      let t = took-else (is_value e.head) answer found.Nothing (λ x. let z : ◌≡◌ {A = ℕ} 0 1 = cc x in omega arith) same in
+      let t = took-else (is_value e.head) (Some (found_at B im s n e)) None (λ x. none-some _ (sym x)) same in
       rw t.0 (when_false e)
 
 module _ (g : Geometry) (bytes : List ℕ) (k : Backs g bytes) (id w : ℕ) (here : w < sectors_of g) where
-  abbrev answered : Option (ℕ × ℕ) → Found
+  abbrev answered : Option (ℕ × ℕ) → Option Found
   answered o = found_as (blocks_of g) (image_of (blocks_of g) (sectors_of g) bytes) o
 
   abbrev sought : Option (ℕ × ℕ)
   sought = seek id (sectors_of g) (next (sectors_of g) w) (sectors_of g - 1) (views_in g bytes)
 
-  told-value : {place : Place} {len : ℕ} {check : Check} (o : Option (ℕ × ℕ)) → sought ≡ o → answered o ≡ found.Value place len check
-      → Holds bytes (told_at (views_in g bytes) o) (place_no place) len check
+  told-value : {found : Found} (o : Option (ℕ × ℕ)) → sought ≡ o → answered o ≡ Some found
+      → Holds bytes (told_at (views_in g bytes) o) (place_no found.place) found.length found.check
   unfolding found_as told_at entry_in
-  told-value none same e = let z : ◌≡◌ {A = ℕ} 0 1 = cc in absurd (omega arith)
-  told-value (some at) same e =
+  told-value None same e = absurd (none-some _ e)
+  told-value (Some at) same e =
       let stands = sought-stands g bytes id w here at same in
       held g bytes k at.0 at.1 (omega (arith, stands.sector, views-count g bytes)) stands.entry e
 
-  told-nothing : (o : Option (ℕ × ℕ)) → sought ≡ o → answered o ≡ found.Nothing → told_at (views_in g bytes) o ≡ none
+  told-none : (o : Option (ℕ × ℕ)) → sought ≡ o → answered o ≡ None → told_at (views_in g bytes) o ≡ rule.none
   unfolding found_as told_at entry_in
-  told-nothing none same e = refl
-  told-nothing (some at) same e =
+  told-none None same e = refl
+  told-none (Some at) same e =
       let stands = sought-stands g bytes id w here at same in
       not-held g bytes k at.0 at.1 (omega (arith, stands.sector, views-count g bytes)) stands.entry e
 
   -- A value that is found is the one that the image tells of the ID; and where none is found, none is told.
-  pub found-value : {place : Place} {len : ℕ} {check : Check} → answered sought ≡ found.Value place len check
-      → Holds bytes (lookup id (history (at_rest w) (views_in g bytes))) (place_no place) len check
+  pub found-value : {found : Found} → answered sought ≡ Some found
+      → Holds bytes (lookup id (history (at_rest w) (views_in g bytes))) (place_no found.place) found.length found.check
   found-value e = rw (sought-tells g bytes id w here) (told-value sought refl e)
 
-  pub found_nothing : answered sought ≡ found.Nothing → lookup id (history (at_rest w) (views_in g bytes)) ≡ none
-  found_nothing e = sought-tells g bytes id w here ∙ told-nothing sought refl e
+  pub found_nothing : answered sought ≡ None → lookup id (history (at_rest w) (views_in g bytes)) ≡ rule.none
+  found_nothing e = sought-tells g bytes id w here ∙ told-none sought refl e

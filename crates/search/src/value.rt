@@ -2,26 +2,23 @@
 ghost use Rattle.std.specs.Prelude.{◌≡◌, ◌++◌, ◌≤◌, length, drop};
 ghost use Rattle.search.specs.Value as rule;
 
-use crate::Check;
-
 // Is the CRC-32 that goes with the bytes, if there is one, right?
-pub fn passes(check: Check, bytes: &[u8]) -> bool
+pub fn passes(check: Option<u32>, bytes: &[u8]) -> bool
     ensures { result ≡ rule.passes check bytes.now }
 {
     match check {
-        Check::Unchecked => true,
-        Check::Crc32(crc) => crc == crc::crc32(bytes),
+        None => true,
+        Some(crc) => crc == crc::crc32(bytes),
     }
 }
 
-// Copies the bytes to the buffer's first places.
+// Copies the bytes to the buffer's first places. By a loop, since `copy_from_slice` calls C's `memmove` where both are lent by C, and a C
+// program owes `memcpy` and `memset` alone.
 pub fn copy(bytes: &[u8], buffer: &mut [u8])
     requires { length bytes.now ≤ length buffer.old }
     ensures { buffer.new ≡ bytes.now ++ drop (length bytes.now) buffer.old }
 {
-    let mut i = 0;
-    while i < bytes.len() {
-        buffer[i] = bytes[i];
-        i += 1;
+    for (i, byte) in bytes.iter().enumerate() {
+        buffer[i] = *byte;
     }
 }

@@ -1,39 +1,19 @@
--- What a caller learns of a sector that was read: what it shows, how small it is, and that no entry ended the reading.
+-- What a caller learns of a sector that was read: how small it is, and that no entry ended the reading.
 -- Assumes nothing.
-use mathlib.Core.Path.{◌≡◌, refl, sym, ap, ◌∙◌}
-use mathlib.Core.Bool.{Bool, true, false, false≢true}
-use mathlib.Core.Logic.{⊎_elim}
+use Rattle.std.specs.Prelude.{Err}
+use mathlib.Core.Path.{◌≡◌, refl}
 use Prim.Native.Nat.{ℕ, ◌-◌, ◌<◌, ◌≤◌}
 use native.Mathlib.Omega.{arith}
 use Rattle.rules.specs.Ground.{Sector, kept_from_deletions}
 use Rattle.rules.specs.Look as rule
-use Rattle.rules.specs.Look.{start, is_entry}
-use Rattle.rules.specs.Reading.{entries_of, end_verdict, view_of}
-use Rattle.rules.proofs.Basics.Notation.{if-cases, took-else}
+use Rattle.rules.specs.Look.{start}
+use Rattle.rules.specs.Reading.{entries_of, end_verdict, after_all}
 use Rattle.rules.proofs.Blocks.Place.{place-data, Reading, reading-of, end_none}
 use Rattle.entry.specs.declared.Scan.{Scan}
-use Rattle.entry.specs.declared.Head.{Head}
-use Rattle.entry.specs.declared.Verdict.TheVariants as verdict
-use Rattle.entry.specs.Answer.{scan_as, Small}
-use Rattle.sector.specs.declared.Header.TheVariants.{Led, NoLead}
-use Rattle.sector.specs.Answer.{entries_as, header_as}
-use Rattle.sector.proofs.Answers.{is-entry}
+use Rattle.entry.specs.Answer.{scan_as, verdict_as, Small}
+use Rattle.entry.proofs.Laws.{err-reason}
+use Rattle.sector.specs.Answer.{entries_as}
 use Rattle.sector.proofs.Standing.{Standing, stand-below}
-
--- ---- what it shows
-
-module _ (B : ℕ) (sector : Sector) where
-  pub led-header : {cycle : ℕ} {closed : Bool} → header_as B sector ≡ Led cycle closed
-      → ((view_of B sector).led ≡ true) × (cycle ≡ (view_of B sector).cycle) × (closed ≡ (view_of B sector).closed)
-  unfolding header_as
-  led-header {cycle} {closed} e =
-      ⊎_elim (λ l. (l.0, sym (cc l.1), sym (cc l.1))) (λ r. let z : ◌≡◌ {A = ℕ} 0 1 = cc r.1 in absurd (omega arith))
-      (if-cases (view_of B sector).led (Led (view_of B sector).cycle (view_of B sector).closed) NoLead e)
-
-  pub not-led : header_as B sector ≡ NoLead → (view_of B sector).led ≡ false
-  unfolding header_as
-  not-led e =
-      (took-else (view_of B sector).led (Led (view_of B sector).cycle (view_of B sector).closed) NoLead (λ t. let z : ◌≡◌ {A = ℕ} 0 1 = cc t in omega arith) e).0
 
 -- ---- what ended the reading, and how small it is
 
@@ -56,8 +36,6 @@ module _ (B cycle : ℕ) (sector : Sector) (enough : 8 ≤ B) where
       stand-bounded few (record { taken = entries_of B cycle sector; took = all.took; sum = refl; place = all.place })
 
   -- what ended the reading is no entry
-  pub ended-no-entry : {head : Head} {next : Scan} → (entries_as B cycle sector).ended ≡ verdict.Entry head next → ⊥
-  unfolding is_entry
-  ended-no-entry e =
-      let told = is-entry _ (end_verdict B cycle sector (entries_of B cycle sector)) e in
-      false≢true (sym (end_none B cycle sector enough) ∙ ap is_entry told.1)
+  pub ended-no-entry : let es = entries_of B cycle sector in
+      Err (entries_as B cycle sector).ended ≡ verdict_as (after_all start es) (end_verdict B cycle sector es)
+  ended-no-entry = err-reason _ _ (end_none B cycle sector enough)

@@ -16,7 +16,7 @@ use Rattle.rules.proofs.Format.Look.{look-entry}
 use Rattle.rules.proofs.Blocks.Reading.{Took, took-none, took_more, took-down, took-snoc, took-entries, after-snoc, entries-more, entries-end}
 use Rattle.rules.proofs.Blocks.Counting.{done_all}
 use Rattle.rules.proofs.Blocks.Place.{Place, place-start, place-data, place-step, verdict-cases}
-use Rattle.entry.specs.Answer.{scan_as, verdict_as}
+use Rattle.entry.specs.Answer.{scan_as, reason_of}
 use Rattle.sector.specs.Answer.{entries_as, has_done_among}
 
 -- With block p to be looked at next: the entries that were taken, what they come to, and that p is left to look at.
@@ -74,7 +74,7 @@ module _ {B cycle : ℕ} {sector : Sector} {scan : Scan} {p : ℕ} (s : Standing
 
   -- and a block that is none ends it: the sector is read
   pub stand-end : is_entry (look B cycle scan (get_or sector p [])) ≡ false
-      → record { count = B - 3 - p; scan = scan_as scan; ended = verdict_as scan (look B cycle scan (get_or sector p [])) } ≡ entries_as B cycle sector
+      → record { count = B - 3 - p; scan = scan_as scan; ended = reason_of (look B cycle scan (get_or sector p [])) } ≡ entries_as B cycle sector
   unfolding entries_of end_verdict end_block
   stand-end none =
       let ended : is_entry (look B cycle (after_all start s.taken) (get_or sector p [])) ≡ false = rw s.sum at none in
@@ -92,8 +92,9 @@ module _ {B cycle : ℕ} {sector : Sector} {scan : Scan} {p : ℕ} (s : Standing
   taken-done : scan.done ≡ has_done_among s.taken
   taken-done = ap (λ (x : Scan). x.done) s.sum ∙ done_all s.taken
 
-  pub stand-undone : is_entry (look B cycle scan (get_or sector p [])) ≡ false → scan.done ≡ false → false ≡ has_done_among (entries_of B cycle sector)
-  stand-undone none undone = sym undone ∙ taken-done ∙ ap has_done_among (sym (stand-entries none))
+  -- and so in what the entries come to
+  pub stand-noted : is_entry (look B cycle scan (get_or sector p [])) ≡ false → scan.done ≡ has_done_among (entries_of B cycle sector)
+  stand-noted none = taken-done ∙ ap has_done_among (sym (stand-entries none))
 
   pub stand-done : scan.done ≡ true → true ≡ has_done_among (entries_of B cycle sector)
   unfolding entries_of

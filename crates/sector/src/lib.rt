@@ -1,146 +1,106 @@
 #![tactic(auto)]
 // Reads one sector where it lies: its cycle, its class, and what its entries come to.
-ghost use Rattle.std.specs.Prelude.{◌≡◌, [], ◌*◌, ◌<◌, length, get_or};
+ghost use Rattle.std.specs.Prelude.{◌≡◌, [], ◌<◌, ◌&&◌, get_or, if◌then◌else◌};
 ghost use Rattle.rules.specs.Notation.{is_empty};
-ghost use Rattle.rules.specs.Ground.{block_size, sector_of, image_of};
 ghost use Rattle.rules.specs.Reading.{entries_of, view_of};
 ghost use Rattle.layout.specs.Numbers.{sector_no};
-ghost use Rattle.layout.specs.Geometry.{blocks_of, sectors_of, Sound, Backs};
-ghost use Rattle.sector.specs.Answer.{entries_as, has_done_among, header_as, class_as};
+ghost use Rattle.layout.specs.Geometry.{blocks_of, sectors_of};
+ghost use Rattle.layout.specs.Image.{sectors_in, blocks_in};
+ghost use Rattle.sector.specs.Answer.{view_in, entries_as, has_done_among, class_as};
 
-use crc::tables::CRC8;
-use entry::{Lead, Scan, Verdict, look};
-use layout::{Block, Geometry, Sector};
+use entry::{NoEntry, Scan, look};
+use layout::{Block, Image, Sector, SectorBytes};
 
-// The entries of a sector: how many there are, from block B-3 downward, what they come to, and the verdict on the block
-// below them, which ended the reading.
+// The entries of a sector: how many there are, from block B-3 downward, what they come to, and why the block below them
+// is none, which ended the reading.
 #[derive(Clone, Copy)]
 pub struct Entries {
     pub count: usize,
     pub scan: Scan,
-    pub ended: Verdict,
+    pub ended: NoEntry,
 }
 
-// The lead and the close of a sector: its cycle and whether it is closed, or that it has no right lead.
-#[derive(Clone, Copy)]
-enum Header {
-    Led(u8, bool),
-    NoLead,
-}
-
-// "A sector is closed (close present), working (not closed, done present) or unfinished (neither)." Without a right lead it
-// has no class.
+// "A sector is closed (close present), working (not closed, done present) or unfinished (neither)."
 #[derive(Clone, Copy)]
 pub enum Class {
     Closed,
     Working,
     Unfinished,
-    NoLead,
 }
 
 // The cycle of sector s: that of its lead, right or wrong.
-pub fn cycle_at(image: &[u8], g: Geometry, s: Sector) -> u8
-    requires backs { Backs g image.now }
-    requires s_bound { sector_no s < sectors_of g }
-    ensures { result ≡ (view_of (blocks_of g) (get_or (image_of (blocks_of g) (sectors_of g) image.now) (sector_no s) [])).cycle }
+pub fn cycle_at(image: &Image, s: Sector) -> u8
+    requires { sector_no s < sectors_of image.now.geometry }
+    ensures { result ≡ (view_of (blocks_of image.now.geometry) (get_or (sectors_in image.now) (sector_no s) [])).cycle }
 {
-    let lead = Block::new(g.blocks() - 1);
-    look::cycle_in(layout::block_at(image, g, s, lead))
+    cycle_in(&image.sector(s))
 }
 
-// "entries are taken from block B-3 downward and the reading ends at the first block that isn't an entry": there is one,
-// since entries and their data never take up all blocks.
-pub fn take_entries(sector: &[u8], g: Geometry, cycle: u8) -> Entries
-    requires sound { Sound g }
-    requires sector_len { length sector.now ≡ blocks_of g * block_size }
-    ensures { result ≡ entries_as (blocks_of g) cycle (sector_of (blocks_of g) sector.now) }
+// The same of a sector's bytes.
+fn cycle_in(sector: &SectorBytes) -> u8
+    ensures { result ≡ (view_in sector.now).cycle }
 {
-    let blocks = g.blocks();
-    let first = blocks - 3;
-    let mut scan = Scan::start();
-    let mut at = first;
-    // The table is lent, so that it is set up once a sector, not once a block.
-    let table = CRC8;
-    loop {
-        let bytes = layout::block_bytes(sector, Block::new(at));
-        let verdict = look::block_by(&table, bytes, g, cycle, scan);
-        let Verdict::Entry(_, next) = verdict else {
-            return Entries {
-                count: first - at,
-                scan: scan,
-                ended: verdict,
-            };
-        };
-        scan = next;
-        at -= 1;
-    }
+    look::cycle_in(sector.block(Block::new(sector.geometry.blocks() - 1)))
 }
 
-// Is one of the entries a done? They are read only as far as to that.
-fn has_done(sector: &[u8], g: Geometry, cycle: u8) -> bool
-    requires sound { Sound g }
-    requires sector_len { length sector.now ≡ blocks_of g * block_size }
-    ensures { result ≡ has_done_among (entries_of (blocks_of g) cycle (sector_of (blocks_of g) sector.now)) }
+// "entries are taken from block B-3 downward and the reading ends at the first block that isn't an entry". Where it
+// is to go only as far as to a done, a sector that has one is not read further, and gives nothing.
+fn read(sector: &SectorBytes, cycle: u8, to_done: bool) -> Option<Entries>
+    ensures { let B = blocks_of sector.now.geometry in result ≡ (if to_done && has_done_among (entries_of B cycle (blocks_in sector.now)) then None else Some (entries_as B cycle (blocks_in sector.now))) }
 {
+    let g = sector.geometry;
+    let first = g.blocks() - 3;
     let mut scan = Scan::start();
-    let mut at = g.blocks() - 3;
-    let table = CRC8;
-    loop {
-        let bytes = layout::block_bytes(sector, Block::new(at));
-        let verdict = look::block_by(&table, bytes, g, cycle, scan);
-        let Verdict::Entry(_, next) = verdict else {
-            return false;
-        };
-        if next.done {
-            return true;
+    for count in 0..=first {
+        let block = sector.block(Block::new(first - count));
+        match look::block(block, g, cycle, scan) {
+            Ok((_, next)) => {
+                if to_done && next.done {
+                    return None;
+                }
+                scan = next;
+            }
+            Err(ended) => return Some(Entries { count, scan, ended }),
         }
-        scan = next;
-        at -= 1;
     }
+    // Is never reached: entries and their data never take up all blocks.
+    None
+}
+
+// All of them.
+pub fn take_entries(sector: &SectorBytes, cycle: u8) -> Entries
+    ensures { result ≡ entries_as (blocks_of sector.now.geometry) cycle (blocks_in sector.now) }
+{
+    read(sector, cycle, false).unwrap()
+}
+
+// Is one of the entries a done?
+fn has_done(sector: &SectorBytes, cycle: u8) -> bool
+    ensures { result ≡ has_done_among (entries_of (blocks_of sector.now.geometry) cycle (blocks_in sector.now)) }
+{
+    read(sector, cycle, true).is_none()
 }
 
 // Has it no entries? Its first entry block says so.
-pub fn is_unused(sector: &[u8], g: Geometry) -> bool
-    requires sound { Sound g }
-    requires sector_len { length sector.now ≡ blocks_of g * block_size }
-    ensures { result ≡ is_empty (view_of (blocks_of g) (sector_of (blocks_of g) sector.now)).entries }
+pub fn is_unused(sector: &SectorBytes) -> bool
+    ensures { result ≡ is_empty (view_in sector.now).entries }
 {
-    let blocks = g.blocks();
-    let cycle = look::cycle_in(layout::block_bytes(sector, Block::new(blocks - 1)));
-    let first = layout::block_bytes(sector, Block::new(blocks - 3));
-    let Verdict::Entry(_, _) = look::block(first, g, cycle, Scan::start()) else {
-        return true;
-    };
-    false
+    let g = sector.geometry;
+    let first = sector.block(Block::new(g.blocks() - 3));
+    look::block(first, g, cycle_in(sector), Scan::start()).is_err()
 }
 
-fn read_header(sector: &[u8], g: Geometry) -> Header
-    requires sound { Sound g }
-    requires sector_len { length sector.now ≡ blocks_of g * block_size }
-    ensures { result ≡ header_as (blocks_of g) (sector_of (blocks_of g) sector.now) }
+// Its class, if it has a right lead. The entries of a closed sector decide nothing, so they are not read.
+pub fn class_of(sector: &SectorBytes) -> Option<Class>
+    ensures { result ≡ class_as (view_in sector.now) }
 {
-    let blocks = g.blocks();
-    let Lead::Cycle(cycle) = look::lead(layout::block_bytes(sector, Block::new(blocks - 1))) else {
-        return Header::NoLead;
-    };
-    let closed = look::is_close(layout::block_bytes(sector, Block::new(blocks - 2)), cycle);
-    Header::Led(cycle, closed)
-}
-
-// The entries of a closed sector decide nothing, so they are not read.
-pub fn class_of(sector: &[u8], g: Geometry) -> Class
-    requires sound { Sound g }
-    requires sector_len { length sector.now ≡ blocks_of g * block_size }
-    ensures { result ≡ class_as (view_of (blocks_of g) (sector_of (blocks_of g) sector.now)) }
-{
-    let Header::Led(cycle, closed) = read_header(sector, g) else {
-        return Class::NoLead;
-    };
-    if closed {
-        return Class::Closed;
+    let blocks = sector.geometry.blocks();
+    let cycle = look::lead(sector.block(Block::new(blocks - 1)))?;
+    if look::is_close(sector.block(Block::new(blocks - 2)), cycle) {
+        return Some(Class::Closed);
     }
-    if has_done(sector, g, cycle) {
-        return Class::Working;
+    if has_done(sector, cycle) {
+        return Some(Class::Working);
     }
-    Class::Unfinished
+    Some(Class::Unfinished)
 }

@@ -4,6 +4,7 @@ use mathlib.Core.Path.{◌≡◌, ◌∙◌}
 use mathlib.Core.List.{List}
 use Prim.Native.Nat.{ℕ, ◌+◌, ◌-◌, ◌/◌, ◌<◌, ◌≤◌}
 use native.Mathlib.Omega.{arith}
+use Rattle.std.specs.Prelude.{Some, None, Err}
 use lib.Dec.{leb}
 use lib.ListN.{length}
 use borrow.Author.Tests.{leb-true, leb-false}
@@ -16,14 +17,13 @@ use Rattle.rules.specs.Calls.{refuse, write_on, delete_on}
 use Rattle.rules.proofs.Basics.Notation.{by-test}
 use Rattle.rules.proofs.Format.Look.{need-blocks}
 use Rattle.layout.specs.declared.Geometry.{Geometry}
-use Rattle.layout.specs.declared.Sizes.TheVariants.{Legal, Illegal}
-use Rattle.layout.specs.Geometry.{blocks_of, sectors_of, sizes_of}
+use Rattle.layout.specs.Geometry.{blocks_of, sectors_of, sizes_in, sizes_of}
+use Rattle.layout.specs.Options.{option_as}
 use Rattle.image.specs.Answer.{views_in}
 use Rattle.append.proofs.Appending.{blocks_in}
 use Rattle.answer.specs.declared.Refusal.{Refusal}
 use Rattle.answer.specs.Answer.{refusal_of}
 use Rattle.at_rest.proofs.Changing.{writing, value_by_state, write-by-state, deleting, deletion_by_state, delete-by-state}
-use Rattle.store.specs.declared.Open.TheVariants as opened
 use Rattle.store.specs.State.{open_as}
 use Rattle.store.proofs.Sizes.{at-illegal, at-legal, not-in-rest}
 
@@ -37,18 +37,18 @@ few-blocks len =
 -- ---- a write
 
 module _ (size count : ℕ) (bytes : List ℕ) (id : ℕ) (value : List ℕ) where
-  pub write-illegal : sizes_of size count (length bytes) ≡ Illegal → rule.write_due size count bytes id value ≡ refuse rule.geometry
+  pub write-illegal : None ≡ sizes_of size count (length bytes) → rule.write_due size count bytes id value ≡ refuse rule.geometry
   unfolding rule.write_due
   write-illegal e = at-illegal size count bytes refuse (λ B S im. write_on B S im id value) e
 
-  pub write-legal : (g : Geometry) → sizes_of size count (length bytes) ≡ Legal g
+  pub write-legal : (g : Geometry) → Some (sizes_in g) ≡ sizes_of size count (length bytes)
       → rule.write_due size count bytes id value ≡ write_on (blocks_of g) (sectors_of g) (blocks_in g bytes) id value
   unfolding rule.write_due
   write-legal g e = at-legal size count bytes refuse (λ B S im. write_on B S im id value) g e
 
 pub write-unready : (g : Geometry) (bytes : List ℕ) (id : ℕ) (value : List ℕ) (other : id ≡ reserved_id → ⊥) (some_bytes : 1 ≤ length value)
     (fits : need_of (look.value id (length value)) ≤ blocks_of g - kept_from_values) {r : Refusal}
-    → open_as (state_of (views_in g bytes)) ≡ opened.Refused r → writing g bytes id value ≡ refuse (refusal_of r)
+    → open_as (option_as (state_of (views_in g bytes))) ≡ Err r → writing g bytes id value ≡ refuse (refusal_of r)
 write-unready g bytes id value other some_bytes fits e =
     write-by-state g bytes id value other some_bytes fits
     ∙ not-in-rest refuse (value_by_state g bytes id value other some_bytes fits) (state_of (views_in g bytes)) e
@@ -56,16 +56,16 @@ write-unready g bytes id value other some_bytes fits e =
 -- ---- a delete
 
 module _ (size count : ℕ) (bytes : List ℕ) (id : ℕ) where
-  pub delete-illegal : sizes_of size count (length bytes) ≡ Illegal → rule.delete_due size count bytes id ≡ refuse rule.geometry
+  pub delete-illegal : None ≡ sizes_of size count (length bytes) → rule.delete_due size count bytes id ≡ refuse rule.geometry
   unfolding rule.delete_due
   delete-illegal e = at-illegal size count bytes refuse (λ B S im. delete_on B S im id) e
 
-  pub delete-legal : (g : Geometry) → sizes_of size count (length bytes) ≡ Legal g
+  pub delete-legal : (g : Geometry) → Some (sizes_in g) ≡ sizes_of size count (length bytes)
       → rule.delete_due size count bytes id ≡ delete_on (blocks_of g) (sectors_of g) (blocks_in g bytes) id
   unfolding rule.delete_due
   delete-legal g e = at-legal size count bytes refuse (λ B S im. delete_on B S im id) g e
 
 pub delete-unready : (g : Geometry) (bytes : List ℕ) (id : ℕ) (other : id ≡ reserved_id → ⊥) {r : Refusal}
-    → open_as (state_of (views_in g bytes)) ≡ opened.Refused r → deleting g bytes id ≡ refuse (refusal_of r)
+    → open_as (option_as (state_of (views_in g bytes))) ≡ Err r → deleting g bytes id ≡ refuse (refusal_of r)
 delete-unready g bytes id other e =
     delete-by-state g bytes id other ∙ not-in-rest refuse (deletion_by_state g bytes id other) (state_of (views_in g bytes)) e

@@ -2,8 +2,7 @@
 // A program of the gate: what the calls answer and leave, on images of every state, held to what the rules say.
 ghost use Rattle.std.specs.Prelude.{◌<◌, ◌≤◌};
 
-use answer::{Outcome, Reply};
-use budget::{Kind, Last};
+use answer::{Numbers, Outcome, Refusal, Reply};
 use layout::Geometry;
 use std::io;
 
@@ -28,9 +27,7 @@ fn put(image: [u8; IMAGE], s: usize, b: usize, block: [u8; 16]) -> [u8; IMAGE]
 {
     let mut stored = image;
     let start = (s * BLOCKS + b) * 16;
-    for i in 0..16 {
-        stored[start + i] = block[i];
-    }
+    stored[start..start + 16].copy_from_slice(&block);
     stored
 }
 
@@ -88,69 +85,43 @@ fn not_reopened() -> [u8; IMAGE] {
 // Bytes of the buffer of a read.
 const ROOM: usize = 16;
 
-fn print_bytes(rt: &impl Print, bytes: &[u8]) -> io::Result<()> {
-    for byte in bytes {
-        print!(rt; "{byte:02x}")?;
-    }
-    Ok(())
-}
-
 // What was asked of a read, and what came of it.
 fn print_read(
     rt: &impl Print,
-    name: &[u8],
+    name: &str,
     id: u32,
     room: usize,
     reply: Reply,
     buffer: [u8; ROOM],
 ) -> io::Result<()> {
-    let number = reply.number();
-    let length = reply.length();
-    rt.write_all(name)?;
-    print!(rt; ", ID {id} into {room}: {number} length {length} buffer ")?;
-    print_bytes(rt, &buffer)?;
+    let told = Numbers::from(reply);
+    let number = told.number;
+    let length = told.length;
+    print!(rt; "{name}, ID {id} into {room}: {number} length {length} buffer ")?;
+    let mut digits = [0; 2 * ROOM];
+    let _ = hex::encode_to_slice(buffer, &mut digits);
+    rt.write_all(&digits)?;
     println!(rt)
 }
 
-fn print_kind(rt: &impl Print, kind: Kind) -> io::Result<()> {
-    match kind {
-        Kind::Lead => print!(rt; "lead"),
-        Kind::Close => print!(rt; "close"),
-        Kind::Done => print!(rt; "done"),
-        Kind::Value => print!(rt; "value"),
-        Kind::Deletion => print!(rt; "deletion"),
-        Kind::Data => print!(rt; "data"),
-        Kind::Blank => print!(rt; "blank"),
-    }
-}
-
-fn print_last(rt: &impl Print, last: Last) -> io::Result<()> {
-    match last {
-        Last::Nothing => print!(rt; "nothing"),
-        Last::Store(s, b, kind) => {
-            print!(rt; "{} {} ", s.number(), b.number())?;
-            print_kind(rt, kind)
-        }
-    }
-}
-
 // What a call that stores answered and told as its last store, and the CRC-32 of the image after it.
-fn print_outcome(
+fn print_made(
     rt: &impl Print,
-    name: &[u8],
+    name: &str,
     allowance: u32,
-    outcome: Outcome,
+    made: Result<Outcome, Refusal>,
     image: &[u8],
 ) -> io::Result<()> {
-    let answer = outcome.answer;
-    let number = answer.number();
-    let stores = answer.stores();
-    let turns = answer.turns();
-    let crc = crc::crc32(image);
-    rt.write_all(name)?;
-    print!(rt; ", allowance {allowance}: {number} stores {stores} turns {turns} last ")?;
-    print_last(rt, outcome.last)?;
-    println!(rt; " image {crc:08x}")
+    let told = Numbers::from(made);
+    let number = told.number;
+    let stores = told.stores;
+    let turns = told.turns;
+    print!(rt; "{name}, allowance {allowance}: {number} stores {stores} turns {turns} last ")?;
+    match made.ok().and_then(|outcome| outcome.last) {
+        Some(store) => print!(rt; "{store}")?,
+        None => print!(rt; "nothing")?,
+    }
+    println!(rt; " image {:08x}", crc::crc32(image))
 }
 
 // ---- reads
@@ -158,7 +129,7 @@ fn print_outcome(
 // A read of so many sectors of a size into the first bytes of the buffer.
 fn read_of(
     rt: &impl Print,
-    name: &[u8],
+    name: &str,
     image: [u8; IMAGE],
     size: usize,
     count: usize,
@@ -172,7 +143,7 @@ fn read_of(
     print_read(rt, name, id, room, reply, buffer)
 }
 
-fn read(rt: &impl Print, name: &[u8], image: [u8; IMAGE], id: u32, room: usize) -> io::Result<()>
+fn read(rt: &impl Print, name: &str, image: [u8; IMAGE], id: u32, room: usize) -> io::Result<()>
     requires { room ≤ 16 }
 {
     read_of(rt, name, image, 128, 3, id, room)
@@ -181,54 +152,54 @@ fn read(rt: &impl Print, name: &[u8], image: [u8; IMAGE], id: u32, room: usize) 
 // The newest value, one of more than 8 bytes, buffers that just fit or are too short, an ID without a value.
 fn of_rest(rt: &impl Print) -> io::Result<()> {
     let image = rest();
-    read(rt, b"rest", image, 7, 16)?;
-    read(rt, b"rest", image, 7, 8)?;
-    read(rt, b"rest", image, 7, 7)?;
-    read(rt, b"rest", image, 7, 0)?;
-    read(rt, b"rest", image, 8, 12)?;
-    read(rt, b"rest", image, 8, 11)?;
-    read(rt, b"rest", image, 9, 16)?;
-    read(rt, b"rest", image, Geometry::RESERVED_ID, 16)
+    read(rt, "rest", image, 7, 16)?;
+    read(rt, "rest", image, 7, 8)?;
+    read(rt, "rest", image, 7, 7)?;
+    read(rt, "rest", image, 7, 0)?;
+    read(rt, "rest", image, 8, 12)?;
+    read(rt, "rest", image, 8, 11)?;
+    read(rt, "rest", image, 9, 16)?;
+    read(rt, "rest", image, Geometry::RESERVED_ID, 16)
 }
 
 // A deletion hides the older value; what is no entry ends the reading of its sector; wrong data is told after a short buffer.
 fn of_changed(rt: &impl Print) -> io::Result<()> {
     let deleted = put(rest(), 1, 3, encode::deletion(SECOND, 8));
-    read(rt, b"deleted", deleted, 8, 16)?;
-    read(rt, b"deleted", deleted, 7, 16)?;
+    read(rt, "deleted", deleted, 8, 16)?;
+    read(rt, "deleted", deleted, 7, 16)?;
     let stale = put(rest(), 1, 3, encode::deletion(FIRST, 7));
-    read(rt, b"entry of another cycle", stale, 7, 16)?;
+    read(rt, "entry of another cycle", stale, 7, 16)?;
     let broken = damaged(rest(), 1, 4, 15);
-    read(rt, b"newest entry damaged", broken, 7, 16)?;
+    read(rt, "newest entry damaged", broken, 7, 16)?;
     let bad = damaged(rest(), 0, 0, 11);
-    read(rt, b"data damaged", bad, 8, 12)?;
-    read(rt, b"data damaged", bad, 8, 11)?;
-    read(rt, b"data damaged", bad, 7, 16)
+    read(rt, "data damaged", bad, 8, 12)?;
+    read(rt, "data damaged", bad, 8, 11)?;
+    read(rt, "data damaged", bad, 7, 16)
 }
 
 // Stores that are not at rest, and images that are none.
 fn of_states(rt: &impl Print) -> io::Result<()> {
-    read(rt, b"mid-turn", mid_turn(), 7, 16)?;
-    read(rt, b"done, not reopened", not_reopened(), 7, 16)?;
+    read(rt, "mid-turn", mid_turn(), 7, 16)?;
+    read(rt, "done, not reopened", not_reopened(), 7, 16)?;
     let two = put(rest(), 2, 5, encode::done(THIRD));
-    read(rt, b"two working", two, 7, 16)?;
+    read(rt, "two working", two, 7, 16)?;
     let used = put(rest(), 2, 5, encode::deletion(THIRD, 7));
-    read(rt, b"spare in use", used, 7, 16)?;
+    read(rt, "spare in use", used, 7, 16)?;
     let lost = damaged(rest(), 2, 7, 9);
-    read(rt, b"lead damaged", lost, 7, 16)?;
-    read(rt, b"lead damaged", lost, Geometry::RESERVED_ID, 16)
+    read(rt, "lead damaged", lost, 7, 16)?;
+    read(rt, "lead damaged", lost, Geometry::RESERVED_ID, 16)
 }
 
 // Sizes that are not those of the image, or of none.
 fn of_sizes(rt: &impl Print) -> io::Result<()> {
     let image = rest();
-    read_of(rt, b"2 sectors of 128", image, 128, 2, 7, 16)?;
-    read_of(rt, b"2 sectors of 192", image, 192, 2, 7, 16)?;
-    read_of(rt, b"1 sector of 384", image, 384, 1, 7, 16)?;
-    read_of(rt, b"4 sectors of 96", image, 96, 4, 7, 16)?;
+    read_of(rt, "2 sectors of 128", image, 128, 2, 7, 16)?;
+    read_of(rt, "2 sectors of 192", image, 192, 2, 7, 16)?;
+    read_of(rt, "1 sector of 384", image, 384, 1, 7, 16)?;
+    read_of(rt, "4 sectors of 96", image, 96, 4, 7, 16)?;
     read_of(
         rt,
-        b"2 sectors of 128",
+        "2 sectors of 128",
         image,
         128,
         2,
@@ -257,16 +228,16 @@ fn stale() -> [u8; IMAGE] {
 const ENOUGH: u32 = 4294967295;
 
 // A mount with an allowance, and then one that may make all its stores.
-fn mount_twice(rt: &impl Print, name: &[u8], image: [u8; IMAGE], allowance: u32) -> io::Result<()> {
+fn mount_twice(rt: &impl Print, name: &str, image: [u8; IMAGE], allowance: u32) -> io::Result<()> {
     let mut mounted = image;
     let first = store::mount(&mut mounted, 128, 3, allowance);
-    print_outcome(rt, name, allowance, first, &mounted)?;
+    print_made(rt, name, allowance, first, &mounted)?;
     let second = store::mount(&mut mounted, 128, 3, ENOUGH);
-    print_outcome(rt, b"  then", ENOUGH, second, &mounted)
+    print_made(rt, "  then", ENOUGH, second, &mounted)
 }
 
 // Every allowance up to the stores due.
-fn mount_each(rt: &impl Print, name: &[u8], image: [u8; IMAGE], due: u32) -> io::Result<()>
+fn mount_each(rt: &impl Print, name: &str, image: [u8; IMAGE], due: u32) -> io::Result<()>
     requires { due < 100 }
 {
     for allowance in 0..=due {
@@ -279,9 +250,9 @@ fn mount_each(rt: &impl Print, name: &[u8], image: [u8; IMAGE], due: u32) -> io:
 fn format_and_mount(rt: &impl Print, count: usize, allowance: u32) -> io::Result<()> {
     let mut image = rest();
     let formatted = store::format(&mut image, 128, count, allowance);
-    print_outcome(rt, b"format", allowance, formatted, &image)?;
+    print_made(rt, "format", allowance, formatted, &image)?;
     let mounted = store::mount(&mut image, 128, count, 0);
-    print_outcome(rt, b"  mount", 0, mounted, &image)
+    print_made(rt, "  mount", 0, mounted, &image)
 }
 
 fn of_mounts(rt: &impl Print) -> io::Result<()> {
@@ -289,15 +260,10 @@ fn of_mounts(rt: &impl Print) -> io::Result<()> {
     format_and_mount(rt, 3, 24)?;
     format_and_mount(rt, 3, 25)?;
     format_and_mount(rt, 4, 25)?;
-    mount_each(rt, b"mount at rest", rest(), 0)?;
-    mount_each(
-        rt,
-        b"mount with a damaged lead",
-        damaged(rest(), 2, 7, 9),
-        0,
-    )?;
-    mount_each(rt, b"mount mid-turn", stale(), 8)?;
-    mount_each(rt, b"mount done, not reopened", not_reopened(), 1)
+    mount_each(rt, "mount at rest", rest(), 0)?;
+    mount_each(rt, "mount with a damaged lead", damaged(rest(), 2, 7, 9), 0)?;
+    mount_each(rt, "mount mid-turn", stale(), 8)?;
+    mount_each(rt, "mount done, not reopened", not_reopened(), 1)
 }
 
 fn main(rt: HostRuntime) -> io::Result<()> {

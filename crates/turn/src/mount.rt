@@ -1,51 +1,43 @@
 // Brings a store to rest: what a cut left of a turn is made, the copies afresh.
 ghost use Rattle.std.specs.Prelude.{◌<◌, ◌≡◌};
-ghost use Rattle.rules.specs.Ground.{image_of};
 ghost use Rattle.rules.specs.Meaning.{state_of};
 ghost use Rattle.rules.specs.Stores as stores;
 ghost use Rattle.rules.specs.Stores.{◌and_then◌};
 ghost use Rattle.layout.specs.Numbers.{sector_no};
-ghost use Rattle.layout.specs.Geometry.{blocks_of, sectors_of, Backs};
-ghost use Rattle.image.specs.Answer.{status_of, views_in};
-ghost use Rattle.budget.specs.Budget.{Did, Consistent};
+ghost use Rattle.layout.specs.Geometry.{blocks_of, sectors_of};
+ghost use Rattle.image.specs.Answer.{status_as};
+ghost use Rattle.budget.specs.Budget.{held, shown, Did};
 ghost use Rattle.turn.specs.Turn.{mount_stores};
 
-use budget::{Budget, reopen};
+use budget::{Cut, Writer, reopen};
 use image::{Status, active, ring};
-use layout::{Geometry, Sector};
-use live::counts;
+use layout::Sector;
+use live::counts::EntryCounts;
 
 // Mid-turn: sector u, which is unfinished, is reopened, and the turn made from its first copy on.
-fn mount_turn(image: &mut [u8], g: Geometry, u: Sector, budget: Budget) -> Budget
-    requires backs { Backs g image.old }
-    requires u_bound { sector_no u < sectors_of g }
-    requires consistent { Consistent budget }
-    ensures { Did g image.old ((stores.reopen (blocks_of g) (sector_no u) and_then stores.finish_turn (blocks_of g) (sectors_of g) (sector_no u)) (image_of (blocks_of g) (sectors_of g) image.old)) budget image.new result }
+fn mount_turn(writer: &mut Writer, u: Sector) -> Result<(), Cut>
+    requires u_bound { sector_no u < sectors_of writer.old.geometry }
+    ensures { Did writer.old ((stores.reopen (blocks_of writer.old.geometry) (sector_no u) and_then stores.finish_turn (blocks_of writer.old.geometry) (sectors_of writer.old.geometry) (sector_no u)) (held writer.old)) writer.new result }
 {
-    let left = reopen::reopen(image, g, u, budget);
-    if left.cut {
-        return left;
-    }
-    let counts = counts::entry_counts(image, g);
-    let empty = active::unused(image, g, u);
-    let turned = crate::finish_turn(image, g, counts, empty, left);
-    turned.budget
+    reopen::reopen(writer, u)?;
+    let counts = EntryCounts::of(&writer.image());
+    let empty = active::unused(&writer.image(), u);
+    crate::finish_turn(writer, &counts, empty)?;
+    Ok(())
 }
 
 // The mount of an image in this state. Where it is no store, or at rest, nothing is due.
-pub fn mount(image: &mut [u8], g: Geometry, status: Status, budget: Budget) -> Budget
-    requires backs { Backs g image.old }
-    requires surveyed { status_of status ≡ state_of (views_in g image.old) }
-    requires consistent { Consistent budget }
-    ensures { Did g image.old (mount_stores (blocks_of g) (sectors_of g) (state_of (views_in g image.old)) (image_of (blocks_of g) (sectors_of g) image.old)) budget image.new result }
+pub fn mount(writer: &mut Writer, status: Option<Status>) -> Result<(), Cut>
+    requires surveyed { status ≡ status_as (state_of (shown writer.old)) }
+    ensures { Did writer.old (mount_stores (blocks_of writer.old.geometry) (sectors_of writer.old.geometry) (state_of (shown writer.old)) (held writer.old)) writer.new result }
 {
     match status {
-        Status::Rest(_) => budget,
-        Status::NotReopened(w) => {
-            let oldest = ring::next_sector(g, w);
-            reopen::reopen(image, g, oldest, budget)
-        }
-        Status::MidTurn(u) => mount_turn(image, g, u, budget),
-        Status::NoStore => budget,
+        None => Ok(()),
+        Some(Status::Rest(_)) => Ok(()),
+        Some(Status::NotReopened(w)) => reopen::reopen(
+            writer,
+            ring::next_sector(writer.geometry, w),
+        ),
+        Some(Status::MidTurn(u)) => mount_turn(writer, u),
     }
 }

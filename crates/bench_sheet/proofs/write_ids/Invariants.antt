@@ -3,4 +3,4 @@ use Rattle.std.proofs.Common.{◌+◌, ◌≤◌}
 use Rattle.bench_sheet.proofs.write_ids.Given as goal
 
 abbrev pub invariant-loop-id : goal.invariant-loop-id
-invariant-loop-id g l = (l.written + l.first ≤ l.id) × (l.turns + l.first ≤ l.id)
+invariant-loop-id g l = (l.written + l.first ≤ l.id) × (l.turned + l.first ≤ l.id)

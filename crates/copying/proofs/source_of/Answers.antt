@@ -2,25 +2,24 @@
 -- Assumes nothing.
 use mathlib.Core.Path.{◌≡◌, sym, ap, ◌∙◌}
 use mathlib.Core.List.{List}
-use Prim.Native.Nat.{ℕ, ◌/◌, ◌≤◌, ◌<◌}
+use Prim.Native.Nat.{ℕ, ◌/◌}
 use native.Mathlib.Omega.{arith}
 use borrow.Author.Tests.{le-leb, lt-leb}
 use Rattle.rules.specs.Ground.{block_size}
 use Rattle.rules.specs.Entry.{length_of}
 use Rattle.copying.specs.Copy.{first_of}
 use Rattle.copying.proofs.source_of.Goals as goal
-
-pub returns-then-length-le-SMALL : goal.returns-then-length-le-SMALL
-unfolding first_of
-returns-then-length-le-SMALL c = let block : List ℕ = c.args.block.now in
-    let few : length_of block ≤ 8 = omega (arith, c.if-length-le-SMALL.true) in
-    let first : 0 ≡ first_of block = sym (simp (le-leb (length_of block) 8 few)) in
-    λ i. record { id = c.id_in-id.ensures i; length = c.length_in-length.ensures i; first = first i }
+use Rattle.copying.proofs.source_of.Goals.{then-length-le-SMALL, else-length-le-SMALL}
 
 pub returns : goal.returns
 unfolding first_of
-returns c = let block : List ℕ = c.args.block.now in
-    let many : 8 < length_of block = omega (arith, c.if-length-le-SMALL.false) in
-    let first : c.offset_in-offset.result / block_size ≡ first_of block =
-    ap (λ (n : ℕ). n / block_size) c.offset_in-offset.ensures ∙ sym (simp (lt-leb (length_of block) 8 many)) in
-    λ i. record { id = c.id_in-id.ensures i; length = c.length_in-length.ensures i; first = first i }
+returns c =
+    let block : List ℕ = c.args.block.now in
+    let length : c.from-length.result ≡ length_of block = c.from-length.ensures ∙ c.length_in.ensures in
+    let first : c.if-length-le-SMALL.first ≡ first_of block =
+    elim c.if-length-le-SMALL.branch [
+      | then-length-le-SMALL w ↦ w.first-is ∙ sym (simp (le-leb (length_of block) 8 (omega (arith, length, w.if-length-le-SMALL.true))))
+      | else-length-le-SMALL w ↦
+          w.first-is ∙ ap (λ (n : ℕ). n / block_size) w.offset_in.ensures ∙ sym (simp (lt-leb (length_of block) 8 (omega (arith, length, w.if-length-le-SMALL.false))))
+    ] in
+    λ i. record { id = c.id_in.ensures i; length = length i; first = first i }

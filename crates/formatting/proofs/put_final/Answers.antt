@@ -7,4 +7,4 @@ use Rattle.formatting.proofs.put_final.Goals as goal
 
 pub returns : goal.returns
 returns c =
-    rw (final-by (blocks_of c.args.g) (sector_no c.args.s) (block_no c.args.b) c.final_kind-kind.ensures c.final_bytes.ensures) at c.put.ensures
+    rw (final-by (blocks_of c.args.writer.now.geometry) (sector_no c.args.s) (block_no c.args.b) c.final_kind-kind.ensures c.final_bytes.ensures) at c.put.ensures

@@ -1,9 +1,9 @@
 -- `index::bucket`: the code computes as the definition does.
 -- Assumes nothing.
 use mathlib.Core.Path.{refl}
-use Rattle.index.specs.Index.{bucket_of}
+use Rattle.index.specs.Buckets.{bucket_of}
 use Rattle.index.proofs.bucket.Goals as goal
 
-pub returns : goal.returns
+pub returns-clause-bucket : goal.returns-clause-bucket
 unfolding bucket_of
-returns c = refl
+returns-clause-bucket c = refl

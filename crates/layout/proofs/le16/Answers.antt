@@ -10,6 +10,7 @@ returns c = let b = c.args.block.now in
     let at = c.args.at in
     omega (
       arith,
+      c.from_le_bytes.ensures,
       number_more b at (at + 1) 1 (omega arith) (omega arith),
       number-one b (at + 1) (omega arith),
     )

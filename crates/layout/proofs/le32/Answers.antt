@@ -10,6 +10,7 @@ returns c = let b = c.args.block.now in
     let at = c.args.at in
     omega (
       arith,
+      c.from_le_bytes.ensures,
       number_more b at (at + 1) 3 (omega arith) (omega arith),
       number_more b (at + 1) (at + 2) 2 (omega arith) (omega arith),
       number_more b (at + 2) (at + 3) 1 (omega arith) (omega arith),

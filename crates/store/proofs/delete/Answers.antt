@@ -1,70 +1,79 @@
 -- `delete`: each check is one of the rule's, in its order.
 -- Assumes nothing.
-use mathlib.Core.Path.{◌≡◌, refl, sym, ap, subst, ◌∙◌}
+use mathlib.Core.Path.{◌≡◌, refl, sym, ap, ◌∙◌}
 use mathlib.Core.Option.{some}
+use native.Mathlib.Omega.{arith}
 use lib.ListN.{length}
+use Rattle.std.specs.Prelude.{option_map, Some, None, Err}
+use Rattle.rules.specs.Ground.{reserved_id}
 use Rattle.rules.specs.Meaning.{at_rest, state_of}
-use Rattle.layout.specs.declared.Sizes.TheVariants.{Legal}
-use Rattle.layout.specs.Geometry.{sizes_of, Backs}
+use Rattle.layout.specs.Geometry.{sizes_in, sizes_of, Backs}
 use Rattle.layout.specs.Numbers.{sector_no}
+use Rattle.layout.specs.Options.{option_as}
 use Rattle.layout.proofs.Laws.{legal-backs, from-sizes}
 use Rattle.image.specs.Answer.{views_in}
 use Rattle.image.proofs.Laws.{survey-state}
 use Rattle.answer.specs.declared.Refusal.TheVariants as refusal
-use Rattle.answer.specs.Answer.{refusal_of, Leaves}
+use Rattle.answer.proofs.Leaving.{exit_as, leaves-exit, leaves-given}
+use Rattle.at_rest.proofs.Changing.{delete-reserved}
 use Rattle.store.specs.State.{open_as}
 use Rattle.store.proofs.Sizes.{open-working}
-use Rattle.answer.proofs.Leaving.{leaves-refused, leaves-given}
-use Rattle.at_rest.proofs.Changing.{delete-reserved}
 use Rattle.store.proofs.Changing.{delete-illegal, delete-legal, delete-unready}
 use Rattle.store.proofs.delete.Goals as goal
-use Rattle.store.proofs.delete.Goals.{After-open_sector, In-Legal, In-Working}
+use Rattle.store.proofs.delete.Goals.{In_ok-g, In_ok-id, In_ok-w, In_err-w}
 
 -- the sizes are legal, and the image has them
-legal : (l : In-Legal)
-    → sizes_of l.args.sector_size l.args.count (length l.args.image.now) ≡ Legal l.in-Legal.g
-legal l = sym l.new.ensures ∙ l.in-Legal.is
+legal : (c : In_ok-g) → Some (sizes_in c.in_ok-g.g) ≡ sizes_of c.args.sector_size c.args.count (length c.args.image.now)
+legal c =
+    let is : c.new.result ≡ Some c.in_ok-g.g = grind (arith, c.ok_or.ensures.variant, c.in_ok-g.ensures) in
+    ap (option_map sizes_in) (sym is) ∙ c.new.ensures
 
-backs : (l : In-Legal) → Backs l.in-Legal.g l.args.image.now
-backs l = legal-backs _ _ _ l.in-Legal.g (legal l) l.args.image.now refl
+backs : (c : In_ok-g) → Backs c.in_ok-g.g c.args.image.now
+backs c = legal-backs _ _ _ c.in_ok-g.g (legal c) c.args.image.now refl
+
+-- the ID is not the reserved one
+other : (c : In_ok-id) → c.args.id ≡ reserved_id → ⊥
+other c same = c.in_ok-id.id.legal (c.in_ok-id.ensures ∙ same)
 
 -- the state of the image, by the sector that is open or the refusal
-opened : (o : After-open_sector) → open_as (state_of (views_in o.in-Legal.g o.args.image.now)) ≡ o.open_sector.result
-opened o = ap open_as (survey-state _ _ o.survey.ensures) ∙ sym o.open_sector.ensures
+rest : (c : In_ok-w) → state_of (views_in c.in_ok-g.g c.args.image.now) ≡ some (at_rest (sector_no c.in_ok-w.w))
+rest c = open-working _ (ap open_as (survey-state c.in_ok-g.g c.args.image.now c.survey.ensures) ∙ sym c.open_sector.ensures ∙ c.in_ok-w.was)
 
-rest : (c : In-Working) → state_of (views_in c.in-Legal.g c.args.image.now) ≡ some (at_rest (sector_no c.in-Working.w))
-rest c = open-working _ (opened c.before ∙ c.in-Working.is)
+unready : (c : In_err-w) → open_as (option_as (state_of (views_in c.in_ok-g.g c.args.image.now))) ≡ Err c.in_err-w.field-0.0
+unready c = ap open_as (survey-state c.in_ok-g.g c.args.image.now c.survey.ensures) ∙ sym c.open_sector.ensures ∙ c.in_err-w.was
 
-pub returns-in_default : goal.returns-in_default
-unfolding refusal_of
-returns-in_default c =
-    let due = delete-illegal c.args.sector_size c.args.count c.args.image.now c.args.id (sym c.new.ensures ∙ c.in_default.is) in
-    subst (Leaves _ _ _ _ _) (sym c.refused.ensures) (leaves-refused c.args.sector_size c.args.allowance c.args.image.now refusal.Geometry due)
+pub returns-in_err-g : goal.returns-in_err-g
+returns-in_err-g c =
+    let is : c.new.result ≡ None = grind (arith, c.ok_or.ensures.variant, c.in_err-g.ensures) in
+    let why : c.in_err-g.field-0.0 ≡ refusal.Geometry = grind (arith, c.ok_or.ensures.variant, c.in_err-g.was) in
+    leaves-exit c.args.sector_size c.args.allowance c.args.image.now
+    (exit_as c.from_residual.result c.from_residual.ensures.1 ∙ ap Err why)
+    (delete-illegal c.args.sector_size c.args.count c.args.image.now c.args.id (ap (option_map sizes_in) (sym is) ∙ c.new.ensures))
 
-pub returns-then-id-eq-RESERVED_ID : goal.returns-then-id-eq-RESERVED_ID
-unfolding refusal_of
-returns-then-id-eq-RESERVED_ID c =
-    let g = c.in-Legal.g in
-    let due = delete-legal c.args.sector_size c.args.count c.args.image.now c.args.id g (legal (goal.at.returns-then-id-eq-RESERVED_ID c).In-Legal) ∙ delete-reserved g c.args.image.now c.args.id c.if-id-eq-RESERVED_ID.true in
-    subst (Leaves _ _ _ _ _) (sym c.refused-then-id-eq-RESERVED_ID.ensures) (leaves-refused c.args.sector_size c.args.allowance c.args.image.now refusal.Reserved due)
+pub returns-in_err-id : goal.returns-in_err-id
+returns-in_err-id c =
+    let reserved = c.in_err-id.ensures in
+    leaves-exit c.args.sector_size c.args.allowance c.args.image.now
+    (exit_as c.from_residual-in_err-id.result c.from_residual-in_err-id.ensures.1 ∙ ap Err reserved.1)
+    (delete-legal c.args.sector_size c.args.count c.args.image.now c.args.id c.in_ok-g.g (legal (goal.at.returns-in_err-id c).In_ok-g)
+    ∙ delete-reserved c.in_ok-g.g c.args.image.now c.args.id reserved.0)
 
-pub survey-requires : goal.survey-requires
-survey-requires c = backs (goal.at.survey-requires c).In-Legal
+pub invariant_of-lent : goal.invariant_of-lent
+invariant_of-lent c = record { backs = backs (goal.at.invariant_of-lent c).In_ok-g }
+
+pub returns-in_err-w : goal.returns-in_err-w
+returns-in_err-w c =
+    leaves-exit c.args.sector_size c.args.allowance c.args.image.now
+    (exit_as c.from_residual-in_err-w.result c.from_residual-in_err-w.ensures.1)
+    (delete-legal c.args.sector_size c.args.count c.args.image.now c.args.id c.in_ok-g.g (legal (goal.at.returns-in_err-w c).In_ok-g)
+    ∙ delete-unready c.in_ok-g.g c.args.image.now c.args.id (other (goal.at.returns-in_err-w c).In_ok-id) (unready (goal.at.returns-in_err-w c).In_err-w))
 
 pub delete-requires : goal.delete-requires
 delete-requires c =
-    record { backs = backs (goal.at.delete-requires c).In-Legal; rest = rest (goal.at.delete-requires c).In-Working; legal_id = c.if-id-eq-RESERVED_ID.false }
+    record { backs = backs (goal.at.delete-requires c).In_ok-g; rest = rest (goal.at.delete-requires c).In_ok-w }
 
-pub returns-in-Working : goal.returns-in-Working
-returns-in-Working c =
-    let g = c.in-Legal.g in
-    leaves-given g c.args.sector_size (from-sizes c.args.sector_size c.args.count _ g (legal (goal.at.returns-in-Working c).In-Legal)).blocks
-    (delete-legal c.args.sector_size c.args.count c.args.image.now c.args.id g (legal (goal.at.returns-in-Working c).In-Legal)) c.delete.ensures
-
-pub returns-in-Refused : goal.returns-in-Refused
-returns-in-Refused c =
-    let g = c.in-Legal.g in
-    let due =
-    delete-legal c.args.sector_size c.args.count c.args.image.now c.args.id g (legal (goal.at.returns-in-Refused c).In-Legal)
-    ∙ delete-unready g c.args.image.now c.args.id c.if-id-eq-RESERVED_ID.false (opened (goal.at.returns-in-Refused c).After-open_sector ∙ c.in-Refused.is) in
-    subst (Leaves _ _ _ _ _) (sym c.refused-in-Refused.ensures) (leaves-refused c.args.sector_size c.args.allowance c.args.image.now _ due)
+pub returns : goal.returns
+returns c =
+    let sizes = legal (goal.at.returns c).In_ok-g in
+    leaves-given c.in_ok-g.g c.args.sector_size (from-sizes c.args.sector_size c.args.count _ c.in_ok-g.g sizes).blocks
+    (delete-legal c.args.sector_size c.args.count c.args.image.now c.args.id c.in_ok-g.g sizes) (rw c.in_ok-id.ensures at c.delete.ensures)

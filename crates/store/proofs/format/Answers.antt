@@ -1,43 +1,49 @@
 -- `format`: the sizes, and then the one step.
 -- Assumes nothing.
-use mathlib.Core.Path.{◌≡◌, refl, sym, subst, ◌∙◌}
+use mathlib.Core.Path.{◌≡◌, refl, sym, ap, ◌∙◌}
+use native.Mathlib.Omega.{arith}
 use lib.ListN.{length}
+use Rattle.std.specs.Prelude.{option_map, Some, None, Err}
 use Rattle.rules.specs.Calls as rule
-use Rattle.layout.specs.declared.Sizes.TheVariants.{Legal}
-use Rattle.layout.specs.Geometry.{sizes_of}
+use Rattle.layout.specs.Geometry.{blocks_of, sectors_of, sizes_in, sizes_of}
 use Rattle.layout.proofs.Laws.{legal-backs, from-sizes}
-use Rattle.budget.specs.Budget.{Consistent}
-use Rattle.budget.proofs.Spent.{new-consistent}
 use Rattle.answer.specs.declared.Refusal.TheVariants as refusal
-use Rattle.answer.specs.Answer.{refusal_of, Leaves}
 use Rattle.store.proofs.Sizes.{at-illegal, at-legal}
-use Rattle.answer.proofs.Leaving.{left-within, leaves-made, leaves-refused}
+use Rattle.answer.proofs.Leaving.{exit_as, left-within, leaves-made, leaves-same, leaves-exit}
+use Rattle.std.proofs.lemmas.Grind.{common_steps}
 use Rattle.store.proofs.format.Goals as goal
-use Rattle.store.proofs.format.Goals.{In-Legal}
+use Rattle.store.proofs.format.Goals.{In_ok-g}
 
 -- the sizes are legal
-legal : (c : In-Legal)
-    → sizes_of c.args.sector_size c.args.count (length c.args.image.now) ≡ Legal c.in-Legal.g
-legal c = sym c.new.ensures ∙ c.in-Legal.is
+legal : (c : In_ok-g)
+    → Some (sizes_in c.in_ok-g.g) ≡ sizes_of c.args.sector_size c.args.count (length c.args.image.now)
+legal c =
+    let is : c.new.result ≡ Some c.in_ok-g.g = grind (arith, c.ok_or.ensures.variant, c.in_ok-g.ensures) in
+    ap (option_map sizes_in) (sym is) ∙ c.new.ensures
 
-pub returns-in_default : goal.returns-in_default
-unfolding rule.format_due refusal_of
-returns-in_default c =
-    let due = at-illegal c.args.sector_size c.args.count c.args.image.now rule.refuse rule.format_on (sym c.new.ensures ∙ c.in_default.is) in
-    subst (Leaves _ _ _ _ _) (sym c.refused.ensures) (leaves-refused c.args.sector_size c.args.allowance c.args.image.now refusal.Geometry due)
+pub returns-in_err-g : goal.returns-in_err-g
+unfolding rule.format_due
+returns-in_err-g c =
+    let is : c.new.result ≡ None = grind (arith, c.ok_or.ensures.variant, c.in_err-g.ensures) in
+    let why : c.in_err-g.field-0.0 ≡ refusal.Geometry = grind (arith, c.ok_or.ensures.variant, c.in_err-g.was) in
+    let due = at-illegal c.args.sector_size c.args.count c.args.image.now rule.refuse rule.format_on (ap (option_map sizes_in) (sym is) ∙ c.new.ensures) in
+    leaves-exit c.args.sector_size c.args.allowance c.args.image.now (exit_as c.from_residual.result c.from_residual.ensures.1 ∙ ap Err why) due
 
-pub format-budget-requires : goal.format-budget-requires
-format-budget-requires c =
-    record { backs = legal-backs c.args.sector_size c.args.count _ c.in-Legal.g (legal (goal.at.format-budget-requires c).In-Legal) c.args.image.now refl; consistent = subst Consistent (sym c.new-2.ensures) (new-consistent c.args.allowance) }
+pub new-writer-requires : goal.new-writer-requires
+new-writer-requires c =
+    record { backs = legal-backs c.args.sector_size c.args.count _ c.in_ok-g.g (legal (goal.at.new-writer-requires c).In_ok-g) c.args.image.now refl }
 
 pub ended-requires : goal.ended-requires
-ended-requires c = left-within (rw c.new-2.ensures at c.format-budget.ensures)
+ended-requires c = left-within c.new-writer.ensures.budget c.format-made.ensures
 
 pub returns : goal.returns
 unfolding rule.format_due rule.format_on
 returns c =
-    let g = c.in-Legal.g in
-    let did = rw c.new-2.ensures at c.format-budget.ensures in
-    let due = at-legal c.args.sector_size c.args.count c.args.image.now rule.refuse rule.format_on g (legal (goal.at.returns c).In-Legal) in
-    let same = (from-sizes c.args.sector_size c.args.count _ g (legal (goal.at.returns c).In-Legal)).blocks in
-    subst (Leaves _ _ _ _ _) (sym c.ended.ensures) (leaves-made did c.args.sector_size 0 same due)
+    let w = c.new-writer.ensures in
+    let sizes = legal (goal.at.returns c).In_ok-g in
+    let due = at-legal c.args.sector_size c.args.count c.args.image.now rule.refuse rule.format_on c.in_ok-g.g sizes in
+    let did = simp (ap blocks_of w.geometry, ap sectors_of w.geometry) at c.format-made.ensures in
+    let size = ap blocks_of w.geometry ∙ (from-sizes c.args.sector_size c.args.count _ c.in_ok-g.g sizes).blocks in
+    let left = leaves-made w.budget did c.args.sector_size 0 size due in
+    let same = c.format-made.ensures.same ∙ w.same in
+    rw c.ended.ensures (leaves-same (rw w.image at left) (grind (arith, common_steps, same)))

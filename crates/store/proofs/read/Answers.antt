@@ -2,77 +2,85 @@
 -- Assumes nothing.
 use mathlib.Core.Path.{◌≡◌, refl, sym, ap, ◌∙◌}
 use mathlib.Core.Option.{some}
+use native.Mathlib.Omega.{arith}
 use lib.ListN.{length}
+use Rattle.std.specs.Prelude.{option_map, Some, None, Err}
+use Rattle.rules.specs.Ground.{reserved_id}
 use Rattle.rules.specs.Meaning.{at_rest, state_of}
 use Rattle.rules.specs.Calls as rule
 use Rattle.rules.specs.Calls.{buffer_after, reply_numbers}
-use Rattle.layout.specs.declared.Sizes.TheVariants.{Legal}
-use Rattle.layout.specs.Geometry.{sizes_of, Backs}
+use Rattle.layout.specs.Geometry.{sizes_in, sizes_of, Backs}
 use Rattle.layout.specs.Numbers.{sector_no}
+use Rattle.layout.specs.Options.{option_as}
 use Rattle.layout.proofs.Laws.{legal-backs}
 use Rattle.image.specs.Answer.{views_in}
 use Rattle.image.proofs.Laws.{survey-state, rest-inside}
-use Rattle.answer.specs.Answer.{refusal_of, reply_numbers_of}
+use Rattle.answer.specs.declared.Refusal.TheVariants as refusal
+use Rattle.answer.specs.Answer.{reply_numbers_of}
+use Rattle.answer.proofs.Leaving.{exit_as}
+use Rattle.answer.proofs.Told.{numbers_as}
 use Rattle.store.specs.State.{open_as}
 use Rattle.store.proofs.Sizes.{open-working}
-use Rattle.answer.proofs.Told.{numbers_as}
-use Rattle.at_rest.proofs.Reading.{both}
-use Rattle.store.proofs.Reading.{read-illegal, read-reserved, read-rest, read-unready}
+use Rattle.store.proofs.Reading.{read-refused, read-illegal, read-reserved, read-rest, read-unready}
 use Rattle.store.proofs.read.Goals as goal
-use Rattle.store.proofs.read.Goals.{After-open_sector, In-Legal, In-Working}
+use Rattle.store.proofs.read.Goals.{In_ok-g, In_ok-id, In_ok-w, In_err-w}
 
 -- the sizes are legal, and the image has them
-legal : (c : In-Legal)
-    → sizes_of c.args.sector_size c.args.count (length c.args.image.now) ≡ Legal c.in-Legal.g
-legal c = sym c.new.ensures ∙ c.in-Legal.is
+legal : (c : In_ok-g) → Some (sizes_in c.in_ok-g.g) ≡ sizes_of c.args.sector_size c.args.count (length c.args.image.now)
+legal c =
+    let is : c.new.result ≡ Some c.in_ok-g.g = grind (arith, c.ok_or.ensures.variant, c.in_ok-g.ensures) in
+    ap (option_map sizes_in) (sym is) ∙ c.new.ensures
 
-backs : (c : In-Legal) → Backs c.in-Legal.g c.args.image.now
-backs c = legal-backs _ _ _ c.in-Legal.g (legal c) c.args.image.now refl
+backs : (c : In_ok-g) → Backs c.in_ok-g.g c.args.image.now
+backs c = legal-backs _ _ _ c.in_ok-g.g (legal c) c.args.image.now refl
+
+-- the ID is not the reserved one
+other : (c : In_ok-id) → c.args.id ≡ reserved_id → ⊥
+other c same = c.in_ok-id.id.legal (c.in_ok-id.ensures ∙ same)
 
 -- the state of the image, by the sector that is open or the refusal
-opened : (c : After-open_sector)
-    → open_as (state_of (views_in c.in-Legal.g c.args.image.now)) ≡ c.open_sector.result
-opened c = ap open_as (survey-state _ _ c.survey.ensures) ∙ sym c.open_sector.ensures
+rest : (c : In_ok-w) → state_of (views_in c.in_ok-g.g c.args.image.now) ≡ some (at_rest (sector_no c.in_ok-w.w))
+rest c = open-working _ (ap open_as (survey-state c.in_ok-g.g c.args.image.now c.survey.ensures) ∙ sym c.open_sector.ensures ∙ c.in_ok-w.was)
 
-rest : (c : In-Working)
-    → state_of (views_in c.in-Legal.g c.args.image.now) ≡ some (at_rest (sector_no c.in-Working.w))
-rest c = open-working _ (opened (record { before = c.before.before; type_inv = record { buffer = c.type_inv.buffer; image = c.type_inv.image } }) ∙ c.in-Working.is)
+unready : (c : In_err-w) → open_as (option_as (state_of (views_in c.in_ok-g.g c.args.image.now))) ≡ Err c.in_err-w.field-0.0
+unready c = ap open_as (survey-state c.in_ok-g.g c.args.image.now c.survey.ensures) ∙ sym c.open_sector.ensures ∙ c.in_err-w.was
 
-pub returns-in_default : goal.returns-in_default
-unfolding reply_numbers_of refusal_of buffer_after
-returns-in_default c =
+pub returns-in_err-g : goal.returns-in_err-g
+returns-in_err-g c =
+    let is : c.new.result ≡ None = grind (arith, c.ok_or.ensures.variant, c.in_err-g.ensures) in
+    let why : c.in_err-g.field-0.0 ≡ refusal.Geometry = grind (arith, c.ok_or.ensures.variant, c.in_err-g.was) in
     let (answers, buffer) =
-    both reply_numbers c.args.buffer.now
-    (read-illegal c.args.sector_size c.args.count c.args.image.now c.args.id (length c.args.buffer.now) (sym c.new.ensures ∙ c.in_default.is)) in
+    read-refused c.args.sector_size c.args.count c.args.image.now c.args.id (length c.args.buffer.now) c.args.buffer.now
+    (exit_as c.from_residual.result c.from_residual.ensures.1 ∙ ap Err why)
+    (read-illegal c.args.sector_size c.args.count c.args.image.now c.args.id (length c.args.buffer.now) (ap (option_map sizes_in) (sym is) ∙ c.new.ensures)) in
     record { answer = answers; buffer = buffer; image = refl }
 
-pub returns-then-id-eq-RESERVED_ID : goal.returns-then-id-eq-RESERVED_ID
-unfolding reply_numbers_of refusal_of buffer_after
-returns-then-id-eq-RESERVED_ID c =
+pub returns-in_err-id : goal.returns-in_err-id
+returns-in_err-id c =
+    let reserved = c.in_err-id.ensures in
     let (answers, buffer) =
-    both reply_numbers c.args.buffer.now
-    (read-reserved c.args.sector_size c.args.count c.args.image.now c.args.id (length c.args.buffer.now) c.in-Legal.g (legal (goal.at.returns-then-id-eq-RESERVED_ID c).In-Legal) c.if-id-eq-RESERVED_ID.true) in
+    read-refused c.args.sector_size c.args.count c.args.image.now c.args.id (length c.args.buffer.now) c.args.buffer.now
+    (exit_as c.from_residual-in_err-id.result c.from_residual-in_err-id.ensures.1 ∙ ap Err reserved.1)
+    (read-reserved c.args.sector_size c.args.count c.args.image.now c.args.id (length c.args.buffer.now) c.in_ok-g.g (legal (goal.at.returns-in_err-id c).In_ok-g) reserved.0) in
     record { answer = answers; buffer = buffer; image = refl }
 
-pub survey-requires : goal.survey-requires
-survey-requires c = backs (goal.at.survey-requires c).In-Legal
+pub invariant_of-lent : goal.invariant_of-lent
+invariant_of-lent c = record { backs = backs (goal.at.invariant_of-lent c).In_ok-g }
+
+pub returns-in_err-w : goal.returns-in_err-w
+returns-in_err-w c =
+    let (answers, buffer) =
+    read-refused c.args.sector_size c.args.count c.args.image.now c.args.id (length c.args.buffer.now) c.args.buffer.now
+    (exit_as c.from_residual-in_err-w.result c.from_residual-in_err-w.ensures.1)
+    (read-unready c.args.sector_size c.args.count c.args.image.now c.args.id (length c.args.buffer.now) c.in_ok-g.g (legal (goal.at.returns-in_err-w c).In_ok-g) (other (goal.at.returns-in_err-w c).In_ok-id) (unready (goal.at.returns-in_err-w c).In_err-w)) in
+    record { answer = answers; buffer = buffer; image = refl }
 
 pub read-requires : goal.read-requires
 read-requires c =
-    let at_rest_lem = rest (goal.at.read-requires c).In-Working in
-    let inside = rest-inside c.in-Legal.g c.args.image.now (sector_no c.in-Working.w) at_rest_lem in
-    record { backs = backs (goal.at.read-requires c).In-Legal; w_bound = inside; legal_id = c.if-id-eq-RESERVED_ID.false }
+    record { w_bound = rest-inside c.in_ok-g.g c.args.image.now (sector_no c.in_ok-w.w) (rest (goal.at.read-requires c).In_ok-w) }
 
-pub returns-in-Working : goal.returns-in-Working
-returns-in-Working c =
-    let due = read-rest c.args.sector_size c.args.count c.args.image.now c.args.id (length c.args.buffer.now) c.in-Legal.g (legal (goal.at.returns-in-Working c).In-Legal) c.if-id-eq-RESERVED_ID.false (rest (goal.at.returns-in-Working c).In-Working) in
-    let r = c.read.ensures in
+pub returns : goal.returns
+returns c =
+    let due = read-rest c.args.sector_size c.args.count c.args.image.now c.args.id (length c.args.buffer.now) c.in_ok-g.g (legal (goal.at.returns c).In_ok-g) (other (goal.at.returns c).In_ok-id) (rest (goal.at.returns c).In_ok-w) in
+    let r = rw c.in_ok-id.ensures at c.read.ensures in
     record { answer = ap reply_numbers_of r.answer ∙ numbers_as _ ∙ ap reply_numbers (sym due); buffer = r.buffer ∙ ap (λ (x : rule.Reply). buffer_after x c.args.buffer.now) (sym due); image = refl }
-
-pub returns-in-Refused : goal.returns-in-Refused
-unfolding reply_numbers_of buffer_after
-returns-in-Refused c =
-    let (answers, buffer) =
-    both reply_numbers c.args.buffer.now
-    (read-unready c.args.sector_size c.args.count c.args.image.now c.args.id (length c.args.buffer.now) c.in-Legal.g (legal (goal.at.returns-in-Refused c).In-Legal) c.if-id-eq-RESERVED_ID.false (opened (goal.at.returns-in-Refused c).After-open_sector ∙ c.in-Refused.is)) in
-    record { answer = answers; buffer = buffer; image = refl }

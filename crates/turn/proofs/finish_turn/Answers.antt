@@ -1,54 +1,50 @@
--- `finish_turn`: the copies, and where they were not cut, the end of the turn.
+-- `finish_turn`: the copies, and then the end of the turn.
 -- Assumes nothing.
-use mathlib.Core.Path.{◌≡◌, ap, subst}
-use mathlib.Core.List.{List}
-use Prim.Native.Nat.{ℕ, ◌<◌}
+use mathlib.Core.Path.{◌≡◌, sym, ap, subst}
+use mathlib.Core.Bool.{true}
+use Prim.Native.Nat.{ℕ}
 use native.Mathlib.Omega.{arith}
+use Rattle.rules.specs.Look.{done, is_within}
 use Rattle.rules.specs.Reading.{View}
 use Rattle.rules.specs.Meaning.{next}
 use Rattle.rules.specs.Stores.{◌and_then◌, append, append_all, survivors, done_entry, reopen, finish_turn}
-use Rattle.rules.proofs.Basics.Places.{at_each}
-use Rattle.rules.proofs.Blocks.OnBytes.{image-of-bytes}
+use Rattle.layout.specs.declared.Geometry.{Geometry}
 use Rattle.layout.specs.Numbers.{sector_no}
 use Rattle.layout.specs.Geometry.{blocks_of, sectors_of}
+use Rattle.entry.specs.Answer.{scan_of}
 use Rattle.image.specs.declared.active.Active.{Active}
 use Rattle.image.proofs.Laws.{carries-at}
-use Rattle.budget.proofs.Laws.{did-backs, did-consistent}
-use Rattle.append.proofs.Appending.{blocks_in}
-use Rattle.turn.specs.Turn.{Turned}
+use Rattle.budget.specs.Budget.{held}
 use Rattle.turn.proofs.Stepping.{turned_then, turned-cut}
 use Rattle.turn.proofs.Turning.{survivors-lie}
 use Rattle.turn.proofs.finish_turn.Goals as goal
-use Rattle.turn.proofs.finish_turn.Goals.{After-slice_known-1}
 
-pub returns-then-gathered : goal.returns-then-gathered
+pub returns-in_err-filled : goal.returns-in_err-filled
 unfolding finish_turn
-returns-then-gathered c =
+returns-in_err-filled c =
+    let w = c.args.writer.now in
+    let B : ℕ = blocks_of w.geometry in
     let u : ℕ = sector_no c.args.active.sector in
-    let im = blocks_in c.args.g c.args.image.now in
-    turned-cut (append_all (blocks_of c.args.g) u (survivors (blocks_of c.args.g) u im)) (append (blocks_of c.args.g) u done_entry and_then reopen (blocks_of c.args.g) (next (sectors_of c.args.g) u)) im
-    c.requires.consistent c.gather-gathered.ensures.did c.if-gathered.true
+    turned-cut (append_all B u (survivors B u (held w))) (append B u done_entry and_then reopen B (next (sectors_of w.geometry) u)) (held w)
+    c.in_err-filled.ensures.did c.from_residual.ensures.0
 
-pub end_turn-requires : goal.end_turn-requires
-end_turn-requires c =
-    let left = c.gather-gathered.ensures.gathered c.if-gathered.false in
-    let did = c.gather-gathered.ensures.did in
-    record { backs = did-backs did c.requires.backs; carries = carries-at c.args.g c.gather-gathered.new.image (sector_no c.args.active.sector) c.requires.carries.inside left.told; done_fits = left.room; consistent = did-consistent did c.requires.consistent }
+pub end_turn-requires-clause-carries : goal.end_turn-requires-clause-carries
+end_turn-requires-clause-carries c =
+    let did = c.in_ok-filled.ensures.did in
+    carries-at _ _ (sector_no c.args.active.sector) (omega (arith, ap sectors_of did.geometry, c.requires.carries.inside)) c.in_ok-filled.ensures.gathered.told
+
+pub end_turn-requires-clause-done_fits : goal.end_turn-requires-clause-done_fits
+end_turn-requires-clause-done_fits c =
+    subst (λ (g : Geometry). is_within (blocks_of g) (scan_of c.in_ok-filled.filled.scan) done ≡ true) (sym c.in_ok-filled.ensures.did.geometry) c.in_ok-filled.ensures.gathered.room
 
 pub returns : goal.returns
 unfolding finish_turn
 returns c =
-    let g = c.args.g in
-    let B : ℕ = blocks_of g in
-    let S : ℕ = sectors_of g in
+    let w = c.args.writer.now in
+    let B : ℕ = blocks_of w.geometry in
     let u : ℕ = sector_no c.args.active.sector in
-    let bytes : List ℕ = c.args.image.now in
-    let left = c.gather-gathered.ensures.gathered c.if-gathered.false in
-    let here : sector_no c.gather-gathered.result.active.sector ≡ u = ap (λ (x : Active). sector_no x.sector) left.told in
-    let whole = image-of-bytes B S bytes (at_each (λ b. b < 256) 0 c.args.image.now (λ j h. omega (arith, (goal.at.returns c).After-slice_known-1.type_inv.image j))) c.requires.backs.sized in
-    let ended =
-    subst (λ (s : ℕ). Turned g s c.gather-gathered.new.image ((append B s done_entry and_then reopen B (next S s)) (blocks_in g c.gather-gathered.new.image)) c.gather-gathered.result.budget c.end_turn.new.image c.end_turn.result)
-    here c.end_turn.ensures in
-    turned_then (append_all B u (survivors B u (blocks_in g bytes))) (append B u done_entry and_then reopen B (next S u)) c.requires.backs
-    (survivors-lie g bytes u c.requires.backs c.requires.carries.inside whole c.requires.empty) c.gather-gathered.ensures.did c.if-gathered.false
-    (λ t other. ap (λ (v : View). v.entries) (left.others t other)) ended
+    let left = c.in_ok-filled.ensures.gathered in
+    let here : sector_no c.in_ok-filled.filled.sector ≡ u = ap (λ (x : Active). sector_no x.sector) left.told in
+    turned_then (append_all B u (survivors B u (held w))) (λ (g : Geometry). append (blocks_of g) u done_entry and_then reopen (blocks_of g) (next (sectors_of g) u))
+    (survivors-lie w u c.requires.carries.inside c.requires.empty) c.in_ok-filled.ensures.did
+    (λ t other. ap (λ (v : View). v.entries) (left.others t other)) (rw here at c.end_turn.ensures)

@@ -1,102 +1,114 @@
--- `turn`: the close, and where it was not cut, the rest of the turn.
+-- `turn`: the close, and then the rest of the turn.
 -- Assumes nothing.
-use mathlib.Core.Path.{◌≡◌, sym, ap, subst, ◌∙◌}
-use mathlib.Core.Bool.{false}
-use Prim.Native.Nat.{ℕ, ◌<◌}
+use mathlib.Core.Path.{◌≡◌, sym, ap, ◌∙◌}
+use Prim.Native.Nat.{ℕ}
 use native.Mathlib.Omega.{arith}
 use lib.ListN.{length}
 use Rattle.rules.specs.Reading.{View}
 use Rattle.rules.specs.Meaning.{view_at, next}
 use Rattle.rules.specs.Stores.{close_sector, finish_turn, turn}
 use Rattle.rules.proofs.Terms.{IsAtomic, closed_view, changed}
-use Rattle.rules.proofs.Basics.Places.{at_each, here-or}
-use Rattle.rules.proofs.Blocks.OnBytes.{image-of-bytes}
+use Rattle.rules.proofs.Basics.Places.{here-or}
 use Rattle.rules.proofs.Blocks.Reopen.{close-atomic}
 use Rattle.rules.proofs.Ring.Order.{next-lt, next-ne}
+use Rattle.layout.specs.declared.Geometry.{Geometry}
 use Rattle.layout.specs.Numbers.{sector_no}
 use Rattle.layout.specs.Geometry.{blocks_of, sectors_of}
 use Rattle.image.specs.declared.active.Active.{Active}
-use Rattle.image.specs.Answer.{views_in, active_as}
+use Rattle.image.specs.Answer.{active_as}
 use Rattle.image.proofs.Laws.{carries-at}
 use Rattle.image.proofs.Sectors.{views-count}
-use Rattle.live.specs.Counts.{Counts}
-use Rattle.budget.proofs.Laws.{did-backs, did-consistent}
-use Rattle.append.proofs.Appending.{blocks_in}
-use Rattle.turn.specs.Turn.{Turned}
+use Rattle.budget.specs.declared.Writer.{Writer}
+use Rattle.budget.specs.Budget.{held, shown}
+use Rattle.budget.proofs.Laws.{whole_image}
 use Rattle.turn.proofs.Stepping.{atomic-lies, step-here, step-others, turned_then, turned-cut}
 use Rattle.turn.proofs.turn.Goals as goal
-use Rattle.turn.proofs.turn.Goals.{After-close-left}
+use Rattle.turn.proofs.turn.Goals.{In_ok-close}
 
--- the close shows at once
-closing : (d : After-close-left) → IsAtomic (blocks_of d.args.g) (sectors_of d.args.g) (close_sector (blocks_of d.args.g) (sector_no d.args.w)) (blocks_in d.args.g d.args.image.now)
-    (changed closed_view (sector_no d.args.w) (views_in d.args.g d.args.image.now))
-closing d =
-    let typed = at_each (λ b. b < 256) 0 d.args.image.now (λ j h. omega (arith, d.slice_known-1.given j)) in
-    let whole = image-of-bytes (blocks_of d.args.g) (sectors_of d.args.g) d.args.image.now typed d.requires.backs.sized in
-    close-atomic d.requires.backs.sound.blocks_from whole d.requires.w_bound
+module _ (d : In_ok-close) where
+  -- the spare, and the image once w is closed
+  abbrev spare : ℕ
+  spare = next (sectors_of d.args.writer.now.geometry) (sector_no d.args.w)
 
-module _ (d : After-close-left) (whole : d.close-left.result.cut ≡ false) where
+  abbrev left : Writer
+  left = d.close.new.writer
+
+  -- the close shows at once
+  closing : IsAtomic (blocks_of d.args.writer.now.geometry) (sectors_of d.args.writer.now.geometry) (close_sector (blocks_of d.args.writer.now.geometry) (sector_no d.args.w)) (held d.args.writer.now)
+      (changed closed_view (sector_no d.args.w) (shown d.args.writer.now))
+  closing = close-atomic d.args.writer.now.geometry.sound.blocks_from (whole_image d.args.writer.now) d.requires.w_bound
+
   -- the spare stays as it was
-  spare-stays :
-      view_at (views_in d.args.g d.close-left.new.image) (next (sectors_of d.args.g) (sector_no d.args.w)) ≡ view_at (views_in d.args.g d.args.image.now) (next (sectors_of d.args.g) (sector_no d.args.w))
+  spare-stays : view_at (shown left) spare ≡ view_at (shown d.args.writer.now) spare
   spare-stays =
-      step-others closed_view (sector_no d.args.w) d.requires.backs (closing d) d.close-left.ensures whole _ (next-ne (sectors_of d.args.g) (sector_no d.args.w) d.requires.backs.sound.sectors_from)
+      step-others d.args.writer.now closed_view (sector_no d.args.w) closing d.in_ok-close.ensures _
+      (next-ne (sectors_of d.args.writer.now.geometry) (sector_no d.args.w) d.args.writer.now.geometry.sound.sectors_from)
 
   -- and so do the entries of every sector
-  entries-stay : (t : ℕ) → (view_at (views_in d.args.g d.close-left.new.image) t).entries ≡ (view_at (views_in d.args.g d.args.image.now) t).entries
+  entries-stay : (t : ℕ) → (view_at (shown left) t).entries ≡ (view_at (shown d.args.writer.now) t).entries
   entries-stay t =
-      here-or (λ (x : ℕ). (view_at (views_in d.args.g d.close-left.new.image) x).entries ≡ (view_at (views_in d.args.g d.args.image.now) x).entries) (sector_no d.args.w) t
-      (ap (λ (v : View). v.entries) (step-here closed_view (sector_no d.args.w) d.requires.backs (closing d) d.close-left.ensures whole d.requires.w_bound))
-      (λ other. ap (λ (v : View). v.entries) (step-others closed_view (sector_no d.args.w) d.requires.backs (closing d) d.close-left.ensures whole t other))
+      here-or (λ (x : ℕ). (view_at (shown left) x).entries ≡ (view_at (shown d.args.writer.now) x).entries) (sector_no d.args.w) t
+      (ap (λ (v : View). v.entries) (step-here d.args.writer.now closed_view (sector_no d.args.w) closing d.in_ok-close.ensures d.requires.w_bound))
+      (λ other. ap (λ (v : View). v.entries) (step-others d.args.writer.now closed_view (sector_no d.args.w) closing d.in_ok-close.ensures t other))
 
   -- what is carried of the spare
-  spare-told :
-      d.unused-spare.result ≡ active_as (next (sectors_of d.args.g) (sector_no d.args.w)) (view_at (views_in d.args.g d.close-left.new.image) (next (sectors_of d.args.g) (sector_no d.args.w)))
+  spare-told : d.unused-spare.result ≡ active_as spare (view_at (shown left) spare)
   spare-told =
-      d.unused-spare.ensures
-      ∙ ap (λ (s : ℕ). active_as s (view_at (views_in d.args.g d.args.image.now) s)) d.next_sector.ensures
-      ∙ ap (active_as (next (sectors_of d.args.g) (sector_no d.args.w))) (sym spare-stays)
+      rw (d.image.ensures.geometry, d.image.ensures.bytes) at d.unused-spare.ensures
+      ∙ ap (λ (s : ℕ). active_as s (view_at (shown d.args.writer.now) s)) d.next_sector.ensures
+      ∙ ap (active_as spare) (sym spare-stays)
 
-  -- the entries are counted as before
-  counts-stay : Counts (views_in d.args.g d.close-left.new.image) d.args.counts
-  counts-stay =
-      record {
-        each = λ t h.
-            d.requires.counts.each t (omega (arith, views-count d.args.g d.close-left.new.image, views-count d.args.g d.args.image.now))
-            ∙ ap length (sym (entries-stay t));
-      }
+  spare-is : sector_no d.unused-spare.result.sector ≡ spare
+  spare-is = ap (λ (x : Active). sector_no x.sector) spare-told
 
-pub unused-spare-requires : goal.unused-spare-requires
-unused-spare-requires c =
-    let inside = next-lt (sectors_of c.args.g) (sector_no c.args.w) c.requires.w_bound in
-    record { backs = c.requires.backs; s_bound = omega (arith, c.next_sector.ensures, inside); empty = ap (λ (s : ℕ). (view_at (views_in c.args.g c.args.image.now) s).entries) c.next_sector.ensures ∙ c.requires.spare_empty }
+pub unused-spare-requires-clause-s_bound : goal.unused-spare-requires-clause-s_bound
+unused-spare-requires-clause-s_bound c =
+    omega (arith, ap sectors_of c.image.ensures.geometry, c.next_sector.ensures, next-lt (sectors_of c.args.writer.now.geometry) (sector_no c.args.w) c.requires.w_bound)
 
-pub returns-then-left : goal.returns-then-left
+pub unused-spare-requires-clause-empty : goal.unused-spare-requires-clause-empty
+unused-spare-requires-clause-empty c =
+    rw (c.image.ensures.geometry, c.image.ensures.bytes, c.next_sector.ensures) c.requires.spare_empty
+
+pub returns-in_err-close : goal.returns-in_err-close
 unfolding turn
-returns-then-left c =
-    let w : ℕ = sector_no c.args.w in
-    turned-cut (close_sector (blocks_of c.args.g) w) (finish_turn (blocks_of c.args.g) (sectors_of c.args.g) (next (sectors_of c.args.g) w))
-    (blocks_in c.args.g c.args.image.now) c.requires.consistent c.close-left.ensures c.if-left.true
+returns-in_err-close c =
+    let w : Writer = c.args.writer.now in
+    let s : ℕ = sector_no c.args.w in
+    turned-cut (close_sector (blocks_of w.geometry) s) (finish_turn (blocks_of w.geometry) (sectors_of w.geometry) (next (sectors_of w.geometry) s))
+    (held w) c.in_err-close.ensures c.from_residual.ensures.0
 
-pub finish_turn-requires : goal.finish_turn-requires
-finish_turn-requires c =
-    let whole = c.if-left.false in
-    let o : ℕ = next (sectors_of c.args.g) (sector_no c.args.w) in
-    let inside : o < sectors_of c.args.g = next-lt (sectors_of c.args.g) (sector_no c.args.w) c.requires.w_bound in
-    let here : sector_no c.unused-spare.result.sector ≡ o = ap (λ (x : Active). sector_no x.sector) (spare-told (goal.at.finish_turn-requires c).After-close-left whole) in
-    let empty = ap (λ (s : ℕ). (view_at (views_in c.args.g c.close-left.new.image) s).entries) here ∙ entries-stay (goal.at.finish_turn-requires c).After-close-left whole o ∙ c.requires.spare_empty in
-    record { backs = did-backs c.close-left.ensures c.requires.backs; counts = counts-stay (goal.at.finish_turn-requires c).After-close-left whole; carries = carries-at c.args.g c.close-left.new.image o inside (spare-told (goal.at.finish_turn-requires c).After-close-left whole); empty = empty; consistent = did-consistent c.close-left.ensures c.requires.consistent }
+-- the entries are counted as before
+pub finish_turn-requires-clause-counts : goal.finish_turn-requires-clause-counts
+finish_turn-requires-clause-counts c =
+    let w : Writer = c.args.writer.now in
+    let left : Writer = c.close.new.writer in
+    record {
+      each = λ t h.
+          c.requires.counts.each t
+          (omega (arith, ap sectors_of c.in_ok-close.ensures.geometry, views-count left.geometry left.image.now, views-count w.geometry w.image.now))
+          ∙ ap length (sym (entries-stay (goal.at.finish_turn-requires-clause-counts c).In_ok-close t));
+    }
+
+pub finish_turn-requires-clause-carries : goal.finish_turn-requires-clause-carries
+finish_turn-requires-clause-carries c =
+    let k = (goal.at.finish_turn-requires-clause-carries c).In_ok-close in
+    let S : ℕ = sectors_of c.args.writer.now.geometry in
+    carries-at _ _ (next S (sector_no c.args.w)) (omega (arith, ap sectors_of c.in_ok-close.ensures.geometry, next-lt S (sector_no c.args.w) c.requires.w_bound)) (spare-told k)
+
+pub finish_turn-requires-clause-empty : goal.finish_turn-requires-clause-empty
+finish_turn-requires-clause-empty c =
+    let k = (goal.at.finish_turn-requires-clause-empty c).In_ok-close in
+    ap (λ (s : ℕ). (view_at (shown c.close.new.writer) s).entries) (spare-is k)
+    ∙ entries-stay k (next (sectors_of c.args.writer.now.geometry) (sector_no c.args.w))
+    ∙ c.requires.spare_empty
 
 pub returns : goal.returns
 unfolding turn
 returns c =
-    let g = c.args.g in
-    let B : ℕ = blocks_of g in
-    let S : ℕ = sectors_of g in
-    let w : ℕ = sector_no c.args.w in
-    let whole = c.if-left.false in
-    let here : sector_no c.unused-spare.result.sector ≡ next S w = ap (λ (x : Active). sector_no x.sector) (spare-told (goal.at.returns c).After-close-left whole) in
-    turned_then (close_sector B w) (finish_turn B S (next S w)) c.requires.backs (atomic-lies c.requires.backs (closing (goal.at.returns c).After-close-left) c.close-left.ensures) c.close-left.ensures whole
-    (λ t other. entries-stay (goal.at.returns c).After-close-left whole t)
-    (subst (λ (s : ℕ). Turned g s c.close-left.new.image (finish_turn B S s (blocks_in g c.close-left.new.image)) c.close-left.result c.finish_turn.new.image c.finish_turn.result)
-    here c.finish_turn.ensures)
+    let w : Writer = c.args.writer.now in
+    let k = (goal.at.returns c).In_ok-close in
+    let S : ℕ = sectors_of w.geometry in
+    turned_then (close_sector (blocks_of w.geometry) (sector_no c.args.w)) (λ (g : Geometry). finish_turn (blocks_of g) (sectors_of g) (next S (sector_no c.args.w)))
+    (atomic-lies w (closing k)) c.in_ok-close.ensures
+    (λ t other. entries-stay k t)
+    (rw (spare-is k) at c.finish_turn.ensures)

@@ -24,4 +24,4 @@ returns-then-test c =
 
 pub returns : goal.returns
 returns c =
-    rw (none c.args.test (sector_no c.args.s) (block_no c.args.b) c.if-test.false) (did_none _ _ _)
+    rw (none c.args.test (sector_no c.args.s) (block_no c.args.b) c.if-test.false) (did_none _ _)

@@ -1,51 +1,32 @@
 -- `reopen::reopen`: the blankings under the next cycle, then its lead.
 -- Assumes nothing.
-use mathlib.Core.Path.{◌≡◌, ap}
+use mathlib.Core.Path.{◌≡◌, refl, ap}
 use mathlib.Core.List.{[], ◌∷◌, ◌++◌}
-use native.Mathlib.Omega.{arith}
-use Rattle.rules.specs.Ground.{image_of}
+use Prim.Native.Nat.{◌+◌, ◌%◌}
 use Rattle.rules.specs.Stores as rule
 use Rattle.layout.specs.Numbers.{sector_no, block_no}
-use Rattle.layout.specs.Geometry.{blocks_of, sectors_of}
-use Rattle.budget.specs.Budget.{Did}
+use Rattle.layout.specs.Geometry.{blocks_of}
+use Rattle.budget.specs.Budget.{held}
 use Rattle.budget.specs.Steps.{stale_blanks}
-use Rattle.budget.proofs.Laws.{did_then, did-cut, did-backs}
+use Rattle.budget.proofs.Laws.{did_then, did-cut}
 use Rattle.budget.proofs.Reopening.{lead_store, reopen-by}
 use Rattle.budget.proofs.reopen.reopen.Goals as goal
-use Rattle.budget.proofs.reopen.reopen.Goals.{After-blank_stale-blanked, After-next_cycle-next, After-put}
+use Rattle.budget.proofs.reopen.reopen.Goals.{After-cycle_at-next}
 
 -- the stores due, by the cycle that was worked out
-due : (c : After-next_cycle-next)
-    → let g = c.args.g in
-    let im = image_of (blocks_of g) (sectors_of g) c.args.image.now in
-    stale_blanks (blocks_of g) (sector_no c.args.s) c.next_cycle-next.result im
-    ++ (lead_store (blocks_of g) (sector_no c.args.s) c.next_cycle-next.result ∷ [])
-    ≡ rule.reopen (blocks_of g) (sector_no c.args.s) im
-due c = reopen-by _ _ _ c.cycle_at.ensures c.next_cycle-next.ensures
+due : (c : After-cycle_at-next)
+    → let w = c.args.writer.now in
+    let B = blocks_of w.geometry in
+    let next = (c.cycle_at-next.result + 1) % 256 in
+    stale_blanks B (sector_no c.args.s) next (held w) ++ (lead_store B (sector_no c.args.s) next ∷ [])
+    ≡ rule.reopen B (sector_no c.args.s) (held w)
+unfolding rule.next_cycle
+due c = reopen-by _ _ _ (rw (c.image.ensures.geometry, c.image.ensures.bytes) at c.cycle_at-next.ensures) refl
 
--- the blankings
-blanked : (c : After-blank_stale-blanked)
-    → let g = c.args.g in
-    Did g c.args.image.now
-    (stale_blanks (blocks_of g) (sector_no c.args.s) c.next_cycle-next.result (image_of (blocks_of g) (sectors_of g) c.args.image.now))
-    c.args.budget c.blank_stale-blanked.new.image c.blank_stale-blanked.result
-blanked c = c.blank_stale-blanked.ensures
-
--- the lead
-led : (c : After-put)
-    → Did c.args.g c.blank_stale-blanked.new.image
-    (lead_store (blocks_of c.args.g) (sector_no c.args.s) c.next_cycle-next.result ∷ [])
-    c.blank_stale-blanked.result c.put.new.image c.put.result
-led c = rw (c.lead.ensures, ap block_no c.new.ensures, c.blocks-2.ensures) at c.put.ensures
-
-pub returns-then-blanked : goal.returns-then-blanked
-returns-then-blanked c =
-    rw (due (goal.at.returns-then-blanked c).After-next_cycle-next) at
-    (did-cut (lead_store (blocks_of c.args.g) (sector_no c.args.s) c.next_cycle-next.result ∷ []) c.requires.consistent (blanked (goal.at.returns-then-blanked c).After-blank_stale-blanked) c.if-blanked.true)
-
-pub put-requires : goal.put-requires
-put-requires c =
-    record { backs = did-backs (blanked (goal.at.put-requires c).After-blank_stale-blanked) c.requires.backs; s_bound = c.requires.s_bound; b_bound = omega (arith, c.requires.backs.sound.blocks_from, ap block_no c.new.ensures, c.blocks-2.ensures) }
+pub returns-in_err-blank_stale : goal.returns-in_err-blank_stale
+returns-in_err-blank_stale c =
+    rw (due (goal.at.returns-in_err-blank_stale c).After-cycle_at-next) at (did-cut (lead_store (blocks_of c.args.writer.now.geometry) (sector_no c.args.s) ((c.cycle_at-next.result + 1) % 256) ∷ []) c.in_err-blank_stale.ensures c.from_residual.ensures.0)
 
 pub returns : goal.returns
-returns c = rw (due (goal.at.returns c).After-next_cycle-next) at (did_then (blanked (goal.at.returns c).After-blank_stale-blanked) (led (goal.at.returns c).After-put))
+returns c =
+    rw (due (goal.at.returns c).After-cycle_at-next) at (did_then c.in_ok-blank_stale.ensures (rw (c.lead.ensures, ap block_no c.new-lead.ensures, c.blocks-2.ensures) at c.put.ensures))

@@ -1,4 +1,4 @@
--- `look::data_blocks`: rounded up by one less, divided, plus 1, so that no length wraps.
+-- `look::data_blocks`: rounded up, so that no length wraps.
 -- Assumes nothing.
 use native.Mathlib.Omega.{arith}
 use borrow.Author.Tests.{le-leb, lt-leb}
@@ -11,4 +11,4 @@ returns-then-length-le-SMALL c = simp (le-leb _ _ c.if-length-le-SMALL.true)
 
 pub returns-else-length-le-SMALL : goal.returns-else-length-le-SMALL
 unfolding data_blocks
-returns-else-length-le-SMALL c = simp (lt-leb _ _ c.if-length-le-SMALL.false) (omega arith)
+returns-else-length-le-SMALL c = simp (lt-leb _ _ c.if-length-le-SMALL.false) (omega (arith, c.div_ceil.ensures))

@@ -1,93 +1,96 @@
--- `look::head_of`: the tests on the way to each return are those of `form_of`. The parts that are read are the block's fields.
+-- `look::head_of`: the four kinds of form are those of `form_of`, by the same tests. The parts that are read are the block's fields.
 -- Assumes nothing.
-use mathlib.Core.Bool.{Bool}
-use mathlib.Core.Path.{◌≡◌, sym, ap, ap₂, ◌∙◌}
-use mathlib.Core.Option.{Option, none}
-use Prim.Native.Nat.{ℕ, ◌+◌}
-use native.Mathlib.Omega.{arith}
-use lib.ListN.{drop}
+use Rattle.std.specs.Prelude.{Some, option_map}
+use Rattle.std.specs.Bool.{then_some}
+use Rattle.std.specs.Prelude as code
+use mathlib.Core.Bool.{Bool, true, false, ◌&&◌}
+use mathlib.Core.Path.{◌≡◌, refl, sym, ap, ap₂, ◌∙◌}
+use mathlib.Core.List.{List}
+use mathlib.Core.Option.{Option}
+use Prim.Native.Nat.{ℕ, ◌+◌, ◌*◌, ◌≤◌, ◌<◌}
+use lib.Dec.{eqb}
+use lib.ListN.{take, drop}
 use lib.Seq.{drop-drop}
 use borrow.Author.Tests.{eq-eqb, ne_eqb, le-leb, lt-leb}
-use Rattle.rules.specs.Notation.{is_erased}
-use Rattle.rules.specs.Ground.{Block}
+use Rattle.rules.specs.Notation.{when, number_of, is_erased}
+use Rattle.rules.specs.Ground.{block_size, reserved_id}
 use Rattle.rules.specs.Entry.{id_of, length_of, body_of}
-use Rattle.rules.specs.Look.{Head, form_of, head_of}
-use Rattle.rules.proofs.Basics.Notation.{when_false}
-use Rattle.rules.proofs.Format.Look.{is-done, is-deletion, is-small-value, is-long-value, kind-form}
-use Rattle.entry.specs.Answer.{form_as}
-use Rattle.entry.proofs.Laws.{erased-rest}
+use Rattle.rules.specs.Look as rule
+use Rattle.rules.specs.Look.{form_of}
+use Rattle.layout.specs.Options.{option_as}
+use Rattle.entry.specs.declared.Head.{Head}
+use Rattle.entry.specs.declared.Head.TheVariants.{Done, Deletion, Value}
+use Rattle.entry.specs.Answer.{head_as, head_of}
+use Rattle.entry.proofs.Laws.{head-as-of, rest_of_block}
 use Rattle.entry.proofs.look.head_of.Goals as goal
-use Rattle.entry.proofs.look.head_of.Goals.{After-is_erased-then-length-le-SMALL, After-le16-length}
+use Rattle.entry.proofs.look.head_of.Goals.{then-length-eq0, else-length-eq0}
 
--- the block, and what the rules give for the fields that were read of it
-abbrev block : After-le16-length → Block
-block c = c.args.block.now
+-- a head where the test holds, here and in the rules
+told-when : (b : Bool) (head : Head) → then_some b head ≡ option_map head_as (option_as (when b (head_of head)))
+unfolding when
+told-when true head = ap (λ (h : Head). Some h) (sym (head-as-of head))
+told-when false head = refl
 
-abbrev formed : After-le16-length → (id len : ℕ) → Option Head
-formed c id len = form_of c.args.data_end id len (body_of (block c))
+module _ (block : List ℕ) (data_end : ℕ) {id len : ℕ} (id-read : id ≡ number_of (take 4 (drop 4 block))) (len-read : len ≡ number_of (take 2 (drop 2 block))) where
+  told : {r : code.Option Head} (b : Bool) (head : Head) → r ≡ then_some b head → form_of data_end id len (body_of block) ≡ when b (head_of head)
+      → r ≡ option_map head_as (option_as (rule.head_of data_end block))
+  unfolding rule.head_of id_of length_of
+  told b head answer form =
+      answer ∙ told-when b head
+      ∙ ap (λ (o : Option rule.Head). option_map head_as (option_as o))
+      (sym form ∙ ap₂ (λ (i n : ℕ). form_of data_end i n (body_of block)) id-read len-read)
 
-by-fields : (c : After-le16-length) {head : Option Head} → formed c c.le32-id.result c.le16-length.result ≡ head
-    → form_as head ≡ form_as (head_of c.args.data_end (block c))
-unfolding head_of id_of length_of
-by-fields c e = ap form_as (sym e ∙ ap₂ (formed c) c.le32-id.ensures c.le16-length.ensures)
+module _ (data_end id len : ℕ) (body : List ℕ) where
+  done-form : id ≡ reserved_id → form_of data_end id len body ≡ when (eqb len 0 && is_erased body) rule.done
+  unfolding form_of
+  done-form reserved = simp (eq-eqb _ _ reserved)
 
--- what follows a short value in the body, where it lies in the block
-behind : (c : After-is_erased-then-length-le-SMALL) {t : Bool} → c.is_erased-then-length-le-SMALL.result ≡ t
-    → is_erased (drop c.le16-length.result (body_of (block (record { before = c.before.before.before.before.before.before; type_inv = record { block = c.shared_slice_known-1.given } })))) ≡ t
+  module _ (other : id ≡ reserved_id → ⊥) where
+    deletion-form : len ≡ 0 → form_of data_end id len body ≡ when (is_erased body) (rule.deletion id)
+    unfolding form_of
+    deletion-form none = simp (ne_eqb _ _ other, eq-eqb _ _ none)
+
+    module _ (some : len ≡ 0 → ⊥) where
+      small-form : len ≤ 8 → form_of data_end id len body ≡ when (is_erased (drop len body)) (rule.value id len)
+      unfolding form_of
+      small-form small = simp (ne_eqb _ _ other, ne_eqb _ _ some, le-leb _ _ small)
+
+      long-form : 8 < len → form_of data_end id len body ≡ when (eqb (number_of (take 4 body)) (data_end * block_size)) (rule.value id len)
+      unfolding form_of
+      long-form long = simp (ne_eqb _ _ other, ne_eqb _ _ some, lt-leb _ _ long)
+
+pub returns-after-length-eq0-clause-form : goal.returns-after-length-eq0-clause-form
 unfolding body_of
-behind c answer =
-    ap is_erased (drop-drop c.le16-length.result 8 (block (record { before = c.before.before.before.before.before.before; type_inv = record { block = c.shared_slice_known-1.given } }))) ∙ erased-rest (8 + c.le16-length.result) (block (record { before = c.before.before.before.before.before.before; type_inv = record { block = c.shared_slice_known-1.given } })) c.is_erased-then-length-le-SMALL.ensures answer
+returns-after-length-eq0-clause-form c =
+    let block : List ℕ = c.args.block.now in
+    let test : c.if-length-eq0.then_some ≡ (eqb c.le16-length.result 0 && is_erased (drop 8 block)) = elim c.if-length-eq0.branch [
+      | then-length-eq0 w ↦ w.then_some-is ∙ rw (eq-eqb _ _ w.if-length-eq0.true) (w.is_erased.ensures ∙ ap is_erased (rest_of_block 8 block c.told-block))
+      | else-length-eq0 w ↦ w.then_some-is ∙ rw (ne_eqb _ _ w.if-length-eq0.false)
+    ] in
+    told block _ c.le32-id.ensures c.le16-length.ensures _ Done c.then_some.ensures (done-form _ _ _ _ c.if-id.true ∙ ap (λ (b : Bool). when b rule.done) (sym test))
 
-pub returns-then-is_erased : goal.returns-then-is_erased
+pub returns-then-length-eq0-2-clause-form : goal.returns-then-length-eq0-2-clause-form
 unfolding body_of
-returns-then-is_erased c =
-    let padded = erased-rest 8 (block (goal.at.returns-then-is_erased c).After-le16-length) c.is_erased.ensures c.if-is_erased.true in
-    record { form = by-fields (goal.at.returns-then-is_erased c).After-le16-length (kind-form _ _ _ _ (is-done c.if-id.true c.if-length-eq0.true padded)); length_fits = omega arith }
+returns-then-length-eq0-2-clause-form c =
+    let block : List ℕ = c.args.block.now in
+    let test = c.is_erased-then-length-eq0-2.ensures ∙ ap is_erased (rest_of_block 8 block c.told-block) in
+    told block _ c.le32-id.ensures c.le16-length.ensures _ (Deletion _) c.then_some-then-length-eq0-2.ensures
+    (deletion-form _ _ _ _ c.if-id.false c.if-length-eq0-2.true ∙ ap (λ (b : Bool). when b (rule.deletion c.le32-id.result)) (sym test))
 
-pub returns-else-is_erased : goal.returns-else-is_erased
-unfolding body_of form_of
-returns-else-is_erased c =
-    let filled = erased-rest 8 (block (goal.at.returns-else-is_erased c).After-le16-length) c.is_erased.ensures c.if-is_erased.false in
-    record { form = by-fields (goal.at.returns-else-is_erased c).After-le16-length {head = none} (simp (eq-eqb _ _ c.if-id.true, eq-eqb _ _ c.if-length-eq0.true, filled, when_false)); length_fits = omega arith }
-
-pub returns-else-length-eq0 : goal.returns-else-length-eq0
-unfolding form_of
-returns-else-length-eq0 c =
-    record { form = by-fields (goal.at.returns-else-length-eq0 c).After-le16-length {head = none} (simp (eq-eqb _ _ c.if-id.true, ne_eqb _ _ c.if-length-eq0.false, when_false)); length_fits = omega arith }
-
-pub returns-then-is_erased-2 : goal.returns-then-is_erased-2
+pub returns-then-length-le-SMALL-clause-form : goal.returns-then-length-le-SMALL-clause-form
 unfolding body_of
-returns-then-is_erased-2 c =
-    let padded = erased-rest 8 (block (goal.at.returns-then-is_erased-2 c).After-le16-length) c.is_erased-then-length-eq0-2.ensures c.if-is_erased-2.true in
-    record { form = by-fields (goal.at.returns-then-is_erased-2 c).After-le16-length (kind-form _ _ _ _ (is-deletion c.if-id.false c.if-length-eq0-2.true padded)); length_fits = omega arith }
+returns-then-length-le-SMALL-clause-form c =
+    let block : List ℕ = c.args.block.now in
+    let len = c.le16-length.result in
+    let test = c.is_erased-then-length-le-SMALL.ensures ∙ ap is_erased (rest_of_block (8 + len) block c.told-block ∙ sym (drop-drop len 8 block)) in
+    told block _ c.le32-id.ensures c.le16-length.ensures _ (Value _ _) c.then_some-then-length-le-SMALL.ensures
+    (small-form _ _ _ _ c.if-id.false c.if-length-eq0-2.false c.if-length-le-SMALL.true ∙ ap (λ (b : Bool). when b (rule.value c.le32-id.result len)) (sym test))
 
-pub returns-then-length-eq0-2 : goal.returns-then-length-eq0-2
-unfolding body_of form_of
-returns-then-length-eq0-2 c =
-    let filled = erased-rest 8 (block (goal.at.returns-then-length-eq0-2 c).After-le16-length) c.is_erased-then-length-eq0-2.ensures c.if-is_erased-2.false in
-    record { form = by-fields (goal.at.returns-then-length-eq0-2 c).After-le16-length {head = none} (simp (ne_eqb _ _ c.if-id.false, eq-eqb _ _ c.if-length-eq0-2.true, filled, when_false)); length_fits = omega arith }
-
-pub returns-then-is_erased-3 : goal.returns-then-is_erased-3
-returns-then-is_erased-3 c =
-    let padded = behind (goal.at.returns-then-is_erased-3 c).After-is_erased-then-length-le-SMALL c.if-is_erased-3.true in
-    record { form = by-fields (goal.at.returns-then-is_erased-3 c).After-le16-length (kind-form _ _ _ _ (is-small-value c.if-id.false (omega arith) c.if-length-le-SMALL.true padded)); length_fits = omega arith }
-
-pub returns-then-length-le-SMALL : goal.returns-then-length-le-SMALL
-unfolding form_of
-returns-then-length-le-SMALL c =
-    let filled = behind (goal.at.returns-then-length-le-SMALL c).After-is_erased-then-length-le-SMALL c.if-is_erased-3.false in
-    let other = ne_eqb _ _ c.if-id.false in
-    record { form = by-fields (goal.at.returns-then-length-le-SMALL c).After-le16-length {head = none} (simp (other, ne_eqb _ _ c.if-length-eq0-2.false, le-leb _ _ c.if-length-le-SMALL.true, filled, when_false)); length_fits = omega arith }
-
-pub returns-then-offset-data_end : goal.returns-then-offset-data_end
+pub returns-else-length-le-SMALL-clause-form : goal.returns-else-length-le-SMALL-clause-form
 unfolding body_of
-returns-then-offset-data_end c =
-    let placed = sym c.le32-offset.ensures ∙ c.if-offset-data_end.true in
-    record { form = by-fields (goal.at.returns-then-offset-data_end c).After-le16-length (kind-form _ _ _ _ (is-long-value c.if-id.false c.if-length-le-SMALL.false placed)); length_fits = omega arith }
-
-pub returns : goal.returns
-unfolding body_of form_of
-returns c =
-    let other = ne_eqb _ _ c.if-id.false in
-    let elsewhere = ne_eqb _ _ (λ e. c.if-offset-data_end.false (c.le32-offset.ensures ∙ e)) in
-    record { form = by-fields (goal.at.returns c).After-le16-length {head = none} (simp (other, ne_eqb _ _ c.if-length-eq0-2.false, lt-leb _ _ c.if-length-le-SMALL.false, elsewhere, when_false)); length_fits = omega arith }
+returns-else-length-le-SMALL-clause-form c =
+    let block : List ℕ = c.args.block.now in
+    let len = c.le16-length.result in
+    told block _ c.le32-id.ensures c.le16-length.ensures _ (Value _ _) c.then_some-else-length-le-SMALL.ensures
+    (long-form _ _ _ _ c.if-id.false c.if-length-eq0-2.false c.if-length-le-SMALL.false
+    ∙ ap (λ (n : ℕ). when (eqb n (c.args.data_end * block_size)) (rule.value c.le32-id.result len)) (sym c.le32-offset.ensures))

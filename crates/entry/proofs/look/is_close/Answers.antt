@@ -7,7 +7,7 @@ use Prim.Native.Nat.{ℕ}
 use Rattle.rules.specs.Entry.{cycle_of, length_of, id_of, body_of}
 use Rattle.rules.specs.Notation.{is_erased}
 use Rattle.rules.proofs.Format.Look.{no-close, close-body}
-use Rattle.rules.proofs.Basics.Lists.{part_to_end}
+use Rattle.entry.proofs.Laws.{rest_of_block}
 use Rattle.entry.proofs.look.is_close.Goals as goal
 
 pub returns-then-block-cycle : goal.returns-then-block-cycle
@@ -29,7 +29,7 @@ pub returns : goal.returns
 unfolding cycle_of id_of length_of body_of
 returns c = let block : List ℕ = c.args.block.now in
     c.is_erased.ensures
-    ∙ ap is_erased (part_to_end 8 block)
+    ∙ ap is_erased (rest_of_block 8 block c.told-block)
     ∙ sym
     (close-body _ block c.if-block-cycle.false (sym c.is_checked.ensures ∙ c.if-not-is_checked.false)
     (sym c.le32.ensures ∙ c.if-le32-ne-RESERVED_ID.false) (sym c.le16.ensures ∙ c.if-le16-ne0.false))

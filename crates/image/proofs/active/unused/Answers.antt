@@ -14,7 +14,7 @@ pub returns : goal.returns
 unfolding after_all
 returns c =
     let s = sector_no c.args.s in
-    let cycle = c.cycle_at.ensures ∙ sym (cycle-at c.args.g c.args.image.now s c.requires.s_bound) in
+    let cycle = c.cycle_at.ensures ∙ sym (cycle-at c.args.image.now.geometry c.args.image.now.bytes.now s c.requires.s_bound) in
     let count = ap length (sym c.requires.empty) in
     let scan = c.start.ensures ∙ ap (λ (es : List Entry). scan_as (after_all start es)) (sym c.requires.empty) in
     λ i. record { sector = c.args.s; cycle = cycle i; entries = count i; scan = scan i }

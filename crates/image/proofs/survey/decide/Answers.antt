@@ -6,9 +6,6 @@ use Rattle.mask.proofs.Laws.{empty-true, two-or-more}
 use Rattle.image.proofs.States.{not-one}
 use Rattle.image.proofs.survey.decide.Goals as goal
 
-pub which-requires : goal.which-requires
-which-requires c = sym c.is_one.ensures ∙ c.if-is_one.true
-
 pub returns-then-is_one : goal.returns-then-is_one
 unfolding state_by
 returns-then-is_one c = rw ((empty-true _).0 (sym c.is_empty.ensures ∙ c.if-is_empty.true), c.which.ensures)
@@ -16,16 +13,6 @@ returns-then-is_one c = rw ((empty-true _).0 (sym c.is_empty.ensures ∙ c.if-is
 pub returns-then-is_empty : goal.returns-then-is_empty
 returns-then-is_empty c = rw ((empty-true _).0 (sym c.is_empty.ensures ∙ c.if-is_empty.true))
     (not-one _ _ (sym c.is_one.ensures ∙ c.if-is_one.false))
-
-pub which-requires-then-is_one-2 : goal.which-requires-then-is_one-2
-which-requires-then-is_one-2 c = sym c.is_one-2.ensures ∙ c.if-is_one-2.true
-
-pub state_with-requires : goal.state_with-requires
-state_with-requires c =
-    record { backs = c.requires.backs; w_bound = c.requires.working_inside _ c.which-then-is_one-2.ensures }
-
-pub returns-then-is_one-2 : goal.returns-then-is_one-2
-returns-then-is_one-2 c = rw c.which-then-is_one-2.ensures c.state_with.ensures
 
 pub returns : goal.returns
 unfolding state_by

@@ -1,4 +1,4 @@
--- `live::renewed::renewed_by_newer`: the invariant is that the marks count the entries of the newer sectors before t among the later ones.
+-- `renewed::renewed_by_newer`: the invariant is that the marks count the entries of the newer sectors before t among the later ones.
 -- Assumes nothing.
 use mathlib.Core.Path.{◌≡◌}
 use mathlib.Core.List.{List}
@@ -7,16 +7,16 @@ use Rattle.layout.specs.Geometry.{sectors_of}
 use Rattle.layout.specs.Numbers.{sector_no}
 use Rattle.mask.specs.Flags.{padded}
 use Rattle.mask.specs.Marks.{max_marks, marks_of}
-use Rattle.image.specs.Answer.{views_in}
+use Rattle.image.specs.Answer.{views}
+use Rattle.index.specs.Index.{entries_of}
 use Rattle.live.specs.Live.{renewed_flags}
-use Rattle.live.proofs.LiveEntries.{entries_at}
 use Rattle.live.proofs.Passing.{sectors_left, Passing}
 use Rattle.live.proofs.renewed.renewed_by_newer.Given as goal
 
 abbrev pub invariant-loop-g : goal.invariant-loop-g
 invariant-loop-g l = (passed : List Entry)
-    × Passing l.spare (sector_no l.s) (sector_no l.t) (views_in l.g l.image) passed
-    × (marks_of l.renewed ≡ padded max_marks (renewed_flags (entries_at l.g l.image l.s) passed))
+    × Passing l.spare (sector_no l.index.sector) (sector_no l.t) (views l.index.image) passed
+    × (marks_of l.renewed ≡ padded max_marks (renewed_flags (entries_of l.index) passed))
 
 abbrev pub decreases-loop-g : goal.decreases-loop-g
-decreases-loop-g l = sectors_left (sectors_of l.g) l.spare (sector_no l.t)
+decreases-loop-g l = sectors_left (sectors_of l.index.image.geometry) l.spare (sector_no l.t)

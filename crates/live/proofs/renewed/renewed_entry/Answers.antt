@@ -1,46 +1,33 @@
--- `live::renewed::renewed_entry`: the ID field of the entry's block tells which entry is renewed.
+-- `renewed::renewed_entry`: the ID field of the entry's block tells which entry is renewed.
 -- Assumes nothing.
 use mathlib.Core.Path.{◌≡◌, sym, ap, ◌∙◌}
-use Prim.Native.Nat.{◌+◌, ◌≤◌}
-use lib.ListN.{length}
+use Prim.Native.Nat.{ℕ}
 use Rattle.rules.specs.Entry.{id_of}
-use Rattle.layout.specs.Geometry.{blocks_of}
 use Rattle.layout.specs.Numbers.{sector_no}
-use Rattle.search.specs.Search.{hit_as}
-use Rattle.image.proofs.EntryBlocks.{entry_block, entry-low, entry_whole}
-use Rattle.live.proofs.LiveEntries.{entries_at, reserved-renews, user-renews}
+use Rattle.image.specs.EntriesIn.{block_of}
+use Rattle.search.specs.Search.{last_named_below}
+use Rattle.index.specs.Index.{entries_of}
+use Rattle.live.proofs.LiveEntries.{reserved-renews, user-renews}
 use Rattle.live.proofs.renewed.renewed_entry.Goals as goal
-use Rattle.live.proofs.renewed.renewed_entry.Goals.{After-id_in-id, After-shared_slice_known-3-1}
+use Rattle.live.proofs.renewed.renewed_entry.Goals.{After-id_in}
 
-low : (c : After-shared_slice_known-3-1) → c.args.n + 3 ≤ blocks_of c.args.g
-low c =
-    entry-low c.args.g c.args.image.now c.requires.backs (sector_no c.args.t) c.args.n c.requires.t_bound c.requires.n_in_bounds
+id-read : (c : After-id_in) → id_of (block_of c.args.later.now) ≡ c.id_in.result
+id-read c = rw c.block.ensures at (sym c.id_in.ensures)
 
-id-read : (c : After-id_in-id) → id_of (entry_block c.args.g c.args.image.now (sector_no c.args.t) c.args.n) ≡ c.id_in-id.result
-id-read c = rw c.entry_block-block.ensures at (sym c.id_in-id.ensures)
-
-pub entry_block-block-requires : goal.entry_block-block-requires
-entry_block-block-requires c = record { backs = c.requires.backs; s_bound = c.requires.t_bound; n_bound = low (goal.at.entry_block-block-requires c).After-shared_slice_known-3-1 }
-
-pub id_in-id-requires : goal.id_in-id-requires
-id_in-id-requires c =
-    ap length c.entry_block-block.ensures
-    ∙ entry_whole c.args.g c.args.image.now (sector_no c.args.t) c.args.n c.requires.backs c.requires.t_bound (low (goal.at.id_in-id-requires c).After-shared_slice_known-3-1)
-
-pub returns-then-id : goal.returns-then-id
-returns-then-id c =
-    sym (ap hit_as
-    (reserved-renews c.args.g c.args.image.now c.requires.backs (sector_no c.args.t) c.args.n c.requires.t_bound c.requires.n_in_bounds c.args.count _
-    (id-read (goal.at.returns-then-id c).After-id_in-id ∙ c.if-id.true)))
-
-pub find-requires : goal.find-requires
-find-requires c = record { backs = c.requires.backs; s_bound = c.requires.s_bound; indexes = c.requires.indexes; legal_id = c.if-id.false }
+pub returns-in_err-new : goal.returns-in_err-new
+returns-in_err-new c =
+    let e = c.args.later.now in
+    let reserved = rw c.in_err-new.was at c.new.ensures in
+    c.from_residual.ensures
+    ∙ sym (reserved-renews e.image.geometry e.image.bytes.now e.image.backs (sector_no e.sector) e.number e.here.sector_inside e.here.inside c.args.index.now.count _
+    (id-read (goal.at.returns-in_err-new c).After-id_in ∙ reserved))
 
 pub returns : goal.returns
 returns c =
-    let id = id-read (goal.at.returns c).After-id_in-id in
+    let e = c.args.later.now in
+    let x = c.args.index.now in
+    let same = rw c.in_ok-new.was at c.new.ensures ∙ sym (id-read (goal.at.returns c).After-id_in) in
     c.find.ensures
-    ∙ sym (ap hit_as
-    (rw id at
-    (user-renews c.args.g c.args.image.now c.requires.backs (sector_no c.args.t) c.args.n c.requires.t_bound c.requires.n_in_bounds c.args.count
-    (entries_at c.args.g c.args.image.now c.args.s) (λ e. c.if-id.false (sym id ∙ e)))))
+    ∙ ap (λ (id : ℕ). last_named_below id x.count (entries_of x)) same
+    ∙ sym (user-renews e.image.geometry e.image.bytes.now e.image.backs (sector_no e.sector) e.number e.here.sector_inside e.here.inside x.count (entries_of x)
+    (λ reserved. c.in_ok-new.field-0.legal (same ∙ reserved)))

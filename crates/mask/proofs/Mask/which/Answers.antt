@@ -13,4 +13,4 @@ use Rattle.mask.proofs.Mask.which.Goals as goal
 pub returns : goal.returns
 unfolding flags_of sectors_in
 returns c = single-place max_sectors c.args.self.0 (omega arith) c.requires
-    ∙ ap (λ (n : ℕ). n ∷ []) (sym (ap sector_no c.new.ensures ∙ c.wide.ensures))
+    ∙ ap (λ (n : ℕ). n ∷ []) (sym (ap sector_no c.new.ensures))

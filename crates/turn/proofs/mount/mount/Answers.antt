@@ -1,75 +1,62 @@
 -- `mount::mount`: each arm knows the status, and so the state of the image.
 -- Assumes nothing.
-use mathlib.Core.Path.{◌≡◌, sym, ap, subst, ◌∙◌}
-use mathlib.Core.Option.{Option}
-use Prim.Native.Nat.{ℕ, ◌<◌}
+use mathlib.Core.Path.{◌≡◌}
+use mathlib.Core.Option.{some}
+use Prim.Native.Nat.{◌<◌}
 use native.Mathlib.Omega.{arith}
-use Rattle.rules.specs.Meaning.{State, not_reopened, mid_turn, Is, state_of}
-use Rattle.rules.specs.Stores.{nothing, reopen, mount}
+use Rattle.rules.specs.Meaning.{not_reopened, mid_turn, Is, state_of}
+use Rattle.rules.specs.Stores.{nothing, mount}
 use Rattle.rules.proofs.Ring.Order.{next-lt}
 use Rattle.rules.proofs.Ring.States.{state-is}
 use Rattle.layout.specs.Numbers.{sector_no}
-use Rattle.layout.specs.Geometry.{blocks_of, sectors_of}
-use Rattle.image.specs.declared.Status.{Status}
-use Rattle.image.specs.Answer.{status_of, views_in}
+use Rattle.layout.specs.Geometry.{sectors_of}
+use Rattle.image.specs.declared.Status.TheVariants as status
+use Rattle.budget.specs.Budget.{shown}
 use Rattle.image.proofs.Sectors.{views-count}
-use Rattle.budget.specs.Budget.{Did}
+use Rattle.image.proofs.Laws.{survey-some, survey-none}
 use Rattle.budget.proofs.Laws.{did_none}
-use Rattle.append.proofs.Appending.{blocks_in}
-use Rattle.turn.specs.Turn.{mount_stores}
 use Rattle.turn.proofs.mount.mount.Goals as goal
-use Rattle.turn.proofs.mount.mount.Goals.{In-MidTurn, In-NotReopened, Start}
+use Rattle.turn.proofs.mount.mount.Goals.{In-Some-MidTurn, In-Some-NotReopened}
 
--- the state by the status
-state-by : (k : Start) {s : Status} → k.args.status ≡ s → state_of (views_in k.args.g k.args.image.now) ≡ status_of s
-state-by k is = sym k.requires.surveyed ∙ ap status_of is
+-- the state by the status, and the sector that it names is one of the image
+not-reopened : (c : In-Some-NotReopened) → state_of (shown c.args.writer.now) ≡ some (not_reopened (sector_no c.in-Some-NotReopened.w))
+not-reopened c =
+    survey-some c.args.writer.now.geometry c.args.writer.now.image.now {s = status.NotReopened c.in-Some-NotReopened.w} c.requires.surveyed (grind arith)
 
--- its sector is one of the image
-working-inside : (c : In-NotReopened) → sector_no c.in-NotReopened.w < sectors_of c.args.g
+working-inside : (c : In-Some-NotReopened) → sector_no c.in-Some-NotReopened.w < sectors_of c.args.writer.now.geometry
 unfolding Is
 working-inside c =
-    let w : ℕ = sector_no c.in-NotReopened.w in
-    omega (arith, (state-is (views_in c.args.g c.args.image.now) (not_reopened w) (state-by c.before.before.before c.in-NotReopened.is)).here, views-count c.args.g c.args.image.now)
+    omega (arith, (state-is (shown c.args.writer.now) (not_reopened (sector_no c.in-Some-NotReopened.w)) (not-reopened c)).here, views-count c.args.writer.now.geometry c.args.writer.now.image.now)
 
-unfinished-inside : (c : In-MidTurn) → sector_no c.in-MidTurn.u < sectors_of c.args.g
-unfolding Is
-unfinished-inside c =
-    let u : ℕ = sector_no c.in-MidTurn.u in
-    omega (arith, (state-is (views_in c.args.g c.args.image.now) (mid_turn u) (state-by c.before.before.before c.in-MidTurn.is)).here, views-count c.args.g c.args.image.now)
+mid-turn : (c : In-Some-MidTurn) → state_of (shown c.args.writer.now) ≡ some (mid_turn (sector_no c.in-Some-MidTurn.u))
+mid-turn c = survey-some c.args.writer.now.geometry c.args.writer.now.image.now {s = status.MidTurn c.in-Some-MidTurn.u} c.requires.surveyed (grind arith)
 
-pub next_sector-oldest-requires : goal.next_sector-oldest-requires
-next_sector-oldest-requires c = working-inside (goal.at.next_sector-oldest-requires c).In-NotReopened
+pub next_sector-requires : goal.next_sector-requires
+next_sector-requires c = working-inside (goal.at.next_sector-requires c).In-Some-NotReopened
 
 pub reopen-requires : goal.reopen-requires
 reopen-requires c =
-    record { backs = c.requires.backs; s_bound = omega (arith, c.next_sector-oldest.ensures, next-lt (sectors_of c.args.g) (sector_no c.in-NotReopened.w) (working-inside (goal.at.reopen-requires c).In-NotReopened)); consistent = c.requires.consistent }
+    omega (arith, c.next_sector.ensures, next-lt (sectors_of c.args.writer.now.geometry) (sector_no c.in-Some-NotReopened.w) (working-inside (goal.at.reopen-requires c).In-Some-NotReopened))
 
 pub mount_turn-requires : goal.mount_turn-requires
+unfolding Is
 mount_turn-requires c =
-    record { backs = c.requires.backs; u_bound = unfinished-inside (goal.at.mount_turn-requires c).In-MidTurn; consistent = c.requires.consistent }
+    omega (arith, (state-is (shown c.args.writer.now) (mid_turn (sector_no c.in-Some-MidTurn.u)) (mid-turn (goal.at.mount_turn-requires c).In-Some-MidTurn)).here, views-count c.args.writer.now.geometry c.args.writer.now.image.now)
 
-pub returns-in-Rest : goal.returns-in-Rest
-unfolding mount nothing
-returns-in-Rest c =
-    subst (λ (o : Option State). Did c.args.g c.args.image.now (mount_stores (blocks_of c.args.g) (sectors_of c.args.g) o (blocks_in c.args.g c.args.image.now)) c.args.budget c.args.image.now c.args.budget)
-    (sym (state-by (goal.at.returns-in-Rest c).Start c.in-Rest.is)) (did_none c.args.g c.args.image.now c.args.budget)
-
-pub returns-in-NotReopened : goal.returns-in-NotReopened
-unfolding mount
-returns-in-NotReopened c =
-    subst (λ (o : Option State). Did c.args.g c.args.image.now (mount_stores (blocks_of c.args.g) (sectors_of c.args.g) o (blocks_in c.args.g c.args.image.now)) c.args.budget c.reopen.new.image c.reopen.result)
-    (sym (state-by (goal.at.returns-in-NotReopened c).Start c.in-NotReopened.is))
-    (subst (λ (s : ℕ). Did c.args.g c.args.image.now (reopen (blocks_of c.args.g) s (blocks_in c.args.g c.args.image.now)) c.args.budget c.reopen.new.image c.reopen.result)
-    c.next_sector-oldest.ensures c.reopen.ensures)
-
-pub returns-in-MidTurn : goal.returns-in-MidTurn
-unfolding mount
-returns-in-MidTurn c =
-    subst (λ (o : Option State). Did c.args.g c.args.image.now (mount_stores (blocks_of c.args.g) (sectors_of c.args.g) o (blocks_in c.args.g c.args.image.now)) c.args.budget c.mount_turn.new.image c.mount_turn.result)
-    (sym (state-by (goal.at.returns-in-MidTurn c).Start c.in-MidTurn.is)) c.mount_turn.ensures
-
-pub returns-in-NoStore : goal.returns-in-NoStore
+pub returns-in-None : goal.returns-in-None
 unfolding nothing
-returns-in-NoStore c =
-    subst (λ (o : Option State). Did c.args.g c.args.image.now (mount_stores (blocks_of c.args.g) (sectors_of c.args.g) o (blocks_in c.args.g c.args.image.now)) c.args.budget c.args.image.now c.args.budget)
-    (sym (state-by (goal.at.returns-in-NoStore c).Start c.in-NoStore.is)) (did_none c.args.g c.args.image.now c.args.budget)
+returns-in-None c = rw (survey-none c.args.writer.now.geometry c.args.writer.now.image.now c.requires.surveyed c.in-None.is) (did_none _ _)
+
+pub returns-in-Some-Rest : goal.returns-in-Some-Rest
+unfolding mount nothing
+returns-in-Some-Rest c =
+    rw (survey-some c.args.writer.now.geometry c.args.writer.now.image.now {s = status.Rest c.in-Some-Rest.field-0-0} c.requires.surveyed (grind arith)) (did_none _ _)
+
+pub returns-in-Some-NotReopened : goal.returns-in-Some-NotReopened
+unfolding mount
+returns-in-Some-NotReopened c =
+    rw (not-reopened (goal.at.returns-in-Some-NotReopened c).In-Some-NotReopened) (rw c.next_sector.ensures at c.reopen.ensures)
+
+pub returns-in-Some-MidTurn : goal.returns-in-Some-MidTurn
+unfolding mount
+returns-in-Some-MidTurn c = rw (mid-turn (goal.at.returns-in-Some-MidTurn c).In-Some-MidTurn) c.mount_turn.ensures

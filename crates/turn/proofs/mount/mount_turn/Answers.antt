@@ -1,65 +1,64 @@
 -- `mount::mount_turn`: the unfinished sector is reopened, and then the turn made.
 -- Assumes nothing.
-use mathlib.Core.Path.{◌≡◌, ap, subst, ◌∙◌}
-use mathlib.Core.Bool.{false}
+use mathlib.Core.Path.{◌≡◌, refl, ap, ◌∙◌}
 use mathlib.Core.List.{[]}
-use Prim.Native.Nat.{ℕ, ◌<◌}
-use native.Mathlib.Omega.{arith}
+use Prim.Native.Nat.{ℕ}
 use Rattle.rules.specs.Reading.{View}
 use Rattle.rules.specs.Meaning.{view_at}
 use Rattle.rules.specs.Stores.{reopen, finish_turn}
 use Rattle.rules.proofs.Terms.{IsAtomic, reopened_view, changed}
-use Rattle.rules.proofs.Basics.Places.{at_each}
-use Rattle.rules.proofs.Blocks.OnBytes.{image-of-bytes}
 use Rattle.rules.proofs.Blocks.Reopen.{reopen-atomic}
+use Rattle.layout.specs.declared.Geometry.{Geometry}
 use Rattle.layout.specs.Numbers.{sector_no}
 use Rattle.layout.specs.Geometry.{blocks_of, sectors_of}
 use Rattle.image.specs.declared.active.Active.{Active}
-use Rattle.image.specs.Answer.{views_in}
-use Rattle.image.proofs.Laws.{carries-at}
-use Rattle.budget.specs.Budget.{Did}
-use Rattle.budget.proofs.Laws.{did-backs, did-consistent, did-and-then, did-and-then-cut}
-use Rattle.append.proofs.Appending.{blocks_in}
+use Rattle.budget.specs.Budget.{held, shown}
+use Rattle.budget.proofs.Laws.{whole_image, did-as, did-and-then, did-and-then-cut}
 use Rattle.turn.proofs.Stepping.{atomic-lies, step-here}
 use Rattle.turn.proofs.mount.mount_turn.Goals as goal
-use Rattle.turn.proofs.mount.mount_turn.Goals.{After-reopen-left}
+use Rattle.turn.proofs.mount.mount_turn.Goals.{In_ok-reopen, After-unused-empty}
 
 -- the reopening shows at once
-reopening : (d : After-reopen-left) → IsAtomic (blocks_of d.args.g) (sectors_of d.args.g) (reopen (blocks_of d.args.g) (sector_no d.args.u)) (blocks_in d.args.g d.args.image.now)
-    (changed reopened_view (sector_no d.args.u) (views_in d.args.g d.args.image.now))
-reopening d =
-    let typed = at_each (λ b. b < 256) 0 d.args.image.now (λ j h. omega (arith, d.slice_known-1.given j)) in
-    let whole = image-of-bytes (blocks_of d.args.g) (sectors_of d.args.g) d.args.image.now typed d.requires.backs.sized in
-    reopen-atomic d.requires.backs.sound.blocks_from whole d.requires.u_bound
+reopening : (d : In_ok-reopen) → IsAtomic (blocks_of d.args.writer.now.geometry) (sectors_of d.args.writer.now.geometry) (reopen (blocks_of d.args.writer.now.geometry) (sector_no d.args.u)) (held d.args.writer.now)
+    (changed reopened_view (sector_no d.args.u) (shown d.args.writer.now))
+reopening d = reopen-atomic d.args.writer.now.geometry.sound.blocks_from (whole_image d.args.writer.now) d.requires.u_bound
 
-emptied : (d : After-reopen-left) → d.reopen-left.result.cut ≡ false → (view_at (views_in d.args.g d.reopen-left.new.image) (sector_no d.args.u)).entries ≡ []
-emptied d whole =
-    ap (λ (v : View). v.entries) (step-here reopened_view (sector_no d.args.u) d.requires.backs (reopening d) d.reopen-left.ensures whole d.requires.u_bound)
+emptied : (d : In_ok-reopen) → (view_at (shown d.reopen.new.writer) (sector_no d.args.u)).entries ≡ []
+emptied d =
+    ap (λ (v : View). v.entries) (step-here d.args.writer.now reopened_view (sector_no d.args.u) (reopening d) d.in_ok-reopen.ensures d.requires.u_bound)
 
-pub returns-then-left : goal.returns-then-left
-returns-then-left c =
+-- what is carried is that of the reopened sector
+here : (d : After-unused-empty) → sector_no d.unused-empty.result.sector ≡ sector_no d.args.u
+here d = ap (λ (x : Active). sector_no x.sector) d.unused-empty.ensures
+
+pub returns-in_err-reopen : goal.returns-in_err-reopen
+returns-in_err-reopen c =
+    let w = c.args.writer.now in
     let u : ℕ = sector_no c.args.u in
-    did-and-then-cut (reopen (blocks_of c.args.g) u) (finish_turn (blocks_of c.args.g) (sectors_of c.args.g) u) (blocks_in c.args.g c.args.image.now) c.requires.consistent c.reopen-left.ensures c.if-left.true
+    did-and-then-cut (reopen (blocks_of w.geometry) u) (finish_turn (blocks_of w.geometry) (sectors_of w.geometry) u) (held w) c.in_err-reopen.ensures c.from_residual.ensures.0
 
-pub entry_counts-counts-requires : goal.entry_counts-counts-requires
-entry_counts-counts-requires c = did-backs c.reopen-left.ensures c.requires.backs
+pub unused-empty-requires-clause-empty : goal.unused-empty-requires-clause-empty
+unused-empty-requires-clause-empty c = rw (c.image-2.ensures.geometry, c.image-2.ensures.bytes) (emptied (goal.at.unused-empty-requires-clause-empty c).In_ok-reopen)
 
-pub unused-empty-requires : goal.unused-empty-requires
-unused-empty-requires c =
-    record { backs = did-backs c.reopen-left.ensures c.requires.backs; s_bound = c.requires.u_bound; empty = emptied (goal.at.unused-empty-requires c).After-reopen-left c.if-left.false }
+pub finish_turn-requires-clause-empty : goal.finish_turn-requires-clause-empty
+finish_turn-requires-clause-empty c =
+    ap (λ (s : ℕ). (view_at (shown c.reopen.new.writer) s).entries) (here (goal.at.finish_turn-requires-clause-empty c).After-unused-empty)
+    ∙ emptied (goal.at.finish_turn-requires-clause-empty c).In_ok-reopen
 
-pub finish_turn-turned-requires : goal.finish_turn-turned-requires
-finish_turn-turned-requires c =
+pub returns-in_err-finish_turn : goal.returns-in_err-finish_turn
+returns-in_err-finish_turn c =
+    let k = goal.at.returns-in_err-finish_turn c in
+    let w = c.args.writer.now in
     let u : ℕ = sector_no c.args.u in
-    let here : sector_no c.unused-empty.result.sector ≡ u = ap (λ (x : Active). sector_no x.sector) c.unused-empty.ensures in
-    let empty = ap (λ (s : ℕ). (view_at (views_in c.args.g c.reopen-left.new.image) s).entries) here ∙ emptied (goal.at.finish_turn-turned-requires c).After-reopen-left c.if-left.false in
-    record { backs = did-backs c.reopen-left.ensures c.requires.backs; counts = c.entry_counts-counts.ensures; carries = carries-at c.args.g c.reopen-left.new.image u c.requires.u_bound c.unused-empty.ensures; empty = empty; consistent = did-consistent c.reopen-left.ensures c.requires.consistent }
+    did-as c.from_residual-in_err-finish_turn.ensures.0
+    (did-and-then (reopen (blocks_of w.geometry) u) (λ (g : Geometry). finish_turn (blocks_of g) (sectors_of g) u) (atomic-lies w (reopening k.In_ok-reopen)) c.in_ok-reopen.ensures
+    (rw (here k.After-unused-empty) at c.in_err-finish_turn.ensures.did))
 
 pub returns : goal.returns
 returns c =
-    let g = c.args.g in
+    let k = goal.at.returns c in
+    let w = c.args.writer.now in
     let u : ℕ = sector_no c.args.u in
-    let here : sector_no c.unused-empty.result.sector ≡ u = ap (λ (x : Active). sector_no x.sector) c.unused-empty.ensures in
-    did-and-then (reopen (blocks_of g) u) (finish_turn (blocks_of g) (sectors_of g) u) c.requires.backs (atomic-lies c.requires.backs (reopening (goal.at.returns c).After-reopen-left) c.reopen-left.ensures) c.reopen-left.ensures c.if-left.false
-    (subst (λ (s : ℕ). Did g c.reopen-left.new.image (finish_turn (blocks_of g) (sectors_of g) s (blocks_in g c.reopen-left.new.image)) c.reopen-left.result c.finish_turn-turned.new.image c.finish_turn-turned.result.budget)
-    here c.finish_turn-turned.ensures.did)
+    did-as refl
+    (did-and-then (reopen (blocks_of w.geometry) u) (λ (g : Geometry). finish_turn (blocks_of g) (sectors_of g) u) (atomic-lies w (reopening k.In_ok-reopen)) c.in_ok-reopen.ensures
+    (rw (here k.After-unused-empty) at c.in_ok-finish_turn.ensures.did))

@@ -1,0 +1,7 @@
+-- `Index::new`: tables of zeros index no entry.
+-- Assumes nothing.
+use Rattle.index.proofs.IndexLaws.{index-none}
+use Rattle.index.proofs.Index.new.Goals as goal
+
+pub invariant_of-result : goal.invariant_of-result
+invariant_of-result c = record { inside = c.requires; indexes = index-none _ }

@@ -1,0 +1,22 @@
+-- The buckets of an index: which one an ID falls into, the newest entry of one, and how a table notes an entry.
+use Rattle.std.specs.Prelude.{List, ℕ, zero, suc, ◌*◌, ◌/◌, ◌%◌, eqb, get_or, if◌then◌else◌, Option, Some, None}
+use Rattle.rules.specs.Reading.{Entry}
+use Rattle.rules.specs.Stores.{id_in}
+use Rattle.image.specs.Answer.{no_entry}
+
+abbrev pub bucket_count : ℕ
+bucket_count = 4096
+
+-- the bucket of an ID: bits 20 to 31 of its product with 2^32 over the golden ratio, so that IDs in a row spread
+unfoldable pub bucket_of : ℕ → ℕ
+bucket_of id = id * 2654435769 / 1048576 % bucket_count
+
+-- the last of the first n entries whose ID falls into bucket b (the ID field of a done is the reserved one)
+unfoldable pub last_in : (b n : ℕ) → List Entry → Option ℕ
+last_in b zero entries = None
+last_in b (suc n) entries = if eqb (bucket_of (id_in (get_or entries n no_entry).head)) b then Some n else last_in b n entries
+
+-- how the tables note it: 0 is no entry, n + 1 entry n
+unfoldable pub link_to : Option ℕ → ℕ
+link_to None = 0
+link_to (Some n) = suc n
