@@ -4,7 +4,8 @@ use mathlib.Core.Path.{◌≡◌, refl, sym, ap, subst, ◌∙◌}
 use mathlib.Core.List.{List}
 use Prim.Native.Nat.{ℕ, ◌*◌, ◌-◌, ◌/◌, ◌≤◌}
 use native.Mathlib.Omega.{arith}
-use Rattle.std.specs.Prelude.{None, Result, Ok, Err}
+use Rattle.std.specs.Prelude.{Option, None, Result, Ok, Err}
+use Rattle.std.specs.Option.{ok_or}
 use Rattle.std.specs.Result.{IsErrAnd}
 use Rattle.std.proofs.lemmas.Result.{err_from_is_err_and}
 use Rattle.rules.specs.Ground.{block_size}
@@ -65,6 +66,10 @@ leaves-refused size a bytes reason e =
 -- what the exit of a `?` answers
 pub exit_as : {T E : Type 0} {e : E} (r : Result T E) → IsErrAnd r (λ d. d ≡ e) → r ≡ Err e
 exit_as r h = let p = err_from_is_err_and r h in rw (p.1, p.2) refl
+
+-- and that of `o.ok_or(why)?`
+pub exit-none : {S T E : Type 0} {o : Option S} {why e : E} (r : Result T E) → o ≡ None → ◌≡◌ {A = Result S E} (Err e) (ok_or o why) → IsErrAnd r (λ d. d ≡ e) → r ≡ Err why
+exit-none {why = why} {e = e} r none told exit = let same : e ≡ why = cc in exit_as r exit ∙ ap Err same
 
 -- the exit of a `?` on a refusal
 pub leaves-exit : {due : Due} (size a : ℕ) (bytes : List ℕ) {reason : Refusal} {r : Result Outcome Refusal} → r ≡ Err reason → due ≡ refuse (refusal_of reason)

@@ -42,11 +42,13 @@ impl fmt::Display for Refusal {
     }
 }
 
+impl std::error::Error for Refusal {}
+
 // What a read answers: the value's length, or a refusal.
 pub type Reply = Result<usize, Refusal>;
 
-// What a format, mount, write or delete came to: all stores made, with their number and the turns; or cut at the allowance, with the
-// stores made.
+// What a format, mount, write or delete came to: all stores made, with their number and the turns; or cut at the
+// allowance, with the stores made. No Result: a cut is no error of the call, its stores stay and are told.
 #[derive(Clone, Copy, Debug, PartialEq, Eq)]
 pub enum Answer {
     Done { stores: u32, turns: u32 },

@@ -15,6 +15,7 @@ pub struct Numbers {
 }
 
 impl Refusal {
+    // Its number: C and the driver's lines tell a refusal by that.
     #[tactic(auto, unfolding(rules::specs::Calls::refusal_number))]
     fn number(self) -> u32
         ensures { result ≡ rule.refusal_number (refusal_of self) }
@@ -33,7 +34,7 @@ impl Refusal {
         }
     }
 
-    // The length that goes with it: a short buffer's; otherwise 0.
+    // The length that goes with it: a short buffer's; otherwise 0, as the rules tell it (`length_told`).
     #[tactic(auto, unfolding(rules::specs::Calls::length_told))]
     fn length(self) -> usize
         ensures { result ≡ rule.length_told (refusal_of self) }

@@ -3,15 +3,14 @@
 use mathlib.Core.Path.{◌≡◌, refl, sym, ap, subst, ◌∙◌}
 use mathlib.Core.Bool.{true, false, not}
 use mathlib.Core.List.{List, [], ◌∷◌, ◌++◌, append_assoc}
-use Prim.Native.Nat.{ℕ, suc, ◌+◌, ◌-◌, ◌^◌, ◌<◌, ◌≤◌}
+use Prim.Native.Nat.{ℕ, suc, ◌+◌, ◌-◌, ◌<◌, ◌≤◌}
 use native.Mathlib.Omega.{arith}
 use lib.ListN.{length, get_or}
-use borrow.Author.Tests.{leb-true}
 use Rattle.std.specs.Prelude.{Result, Ok, Err, is_err}
 use Rattle.rules.specs.Notation.{Each, pieces}
-use Rattle.rules.specs.Ground.{Block, Image, kept_from_values, image_of}
+use Rattle.rules.specs.Ground.{Block, Image, image_of}
 use Rattle.rules.specs.Look as rule
-use Rattle.rules.specs.Look.{start, after, data_blocks, need_of, data_of, is_within}
+use Rattle.rules.specs.Look.{start, after, data_blocks, data_of, is_within}
 use Rattle.rules.specs.Reading.{Entry, view_of, after_all, end_block, entries_of}
 use Rattle.rules.specs.Meaning.{view_at}
 use Rattle.rules.specs.Stores.{apply, data_stores, entry_block, append, done_entry, deletion_entry, value_entry}
@@ -20,12 +19,12 @@ use Rattle.rules.proofs.Blocks.Place.{Place, place-data, place-step, Reading, re
 use Rattle.rules.proofs.Blocks.Formatted.{length-image}
 use Rattle.rules.proofs.Blocks.OnImage.{view-at}
 use Rattle.rules.proofs.Blocks.OnBytes.{Lies}
-use Rattle.rules.proofs.Crash.Effects.{short-value}
 use Rattle.layout.specs.declared.Geometry.{Geometry}
 use Rattle.layout.specs.Sizes.{Sound}
 use Rattle.layout.specs.Geometry.{blocks_of, sectors_of}
 use Rattle.entry.specs.declared.Head.{Head}
 use Rattle.entry.specs.declared.Head.TheVariants as head
+use Rattle.entry.specs.declared.new_entry.NewEntry.{NewEntry}
 use Rattle.entry.specs.Answer.{scan_of, head_of, length_of}
 use Rattle.image.specs.declared.active.Active.{Active}
 use Rattle.image.specs.Answer.{views_in, active_as}
@@ -33,7 +32,7 @@ use Rattle.image.proofs.Laws.{scan-bounded}
 use Rattle.budget.specs.declared.Cut.{Cut}
 use Rattle.budget.specs.declared.Writer.{Writer}
 use Rattle.budget.specs.Budget.{held, Did}
-use Rattle.append.specs.Append.{entry_for, value_blocks, ahead_stores, entry_stores, Fits}
+use Rattle.append.specs.Append.{entry_for, entry_of, value_blocks, ahead_stores, entry_stores, Fits}
 use Rattle.budget.proofs.Laws.{did_then, did-cut, did-whole}
 
 -- the blocks of an image
@@ -47,14 +46,6 @@ unfolding is_within
 within-done B scan none = ap not none
 
 -- ---- where the entry goes
-
--- a value that counts has a length that fits its field
-within-short : (B : ℕ) (scan : rule.Scan) (h : Head) → B ≤ 4096 → is_within B scan (head_of h) ≡ true → length_of h < 2 ^ 16
-unfolding is_within need_of
-within-short B scan head.Done few within = omega arith
-within-short B scan (head.Deletion id) few within = omega arith
-within-short B scan (head.Value id len) few within =
-    short-value B len few (omega (arith, leb-true (scan.needs + (1 + data_blocks len)) (B - kept_from_values) within))
 
 module _ (w : Writer) (s : ℕ) {active : Active} (inside : s < sectors_of w.geometry)
     (known : active ≡ active_as s (view_at (views_in w.geometry w.image.now) s)) where
@@ -118,7 +109,6 @@ module _ (w : Writer) (s : ℕ) {active : Active} (inside : s < sectors_of w.geo
           few = omega arith;
           before = rw known (scan-bounded w.geometry w.image.now s inside).small;
           after = record { needs = omega (arith, place'.room, sound.blocks_to); data_end = omega (arith, sound.blocks_to) };
-          short = within-short B (scan_of active.scan) h sound.blocks_to within;
         }
 
 -- ---- an entry by its head and the bytes of its value
@@ -128,24 +118,34 @@ unfolding value_entry data_blocks pieces
 no-data [] none = refl
 no-data (x ∷ value) none = absurd (omega arith)
 
--- its data blocks are those of the value, and its head is the head
-pub entry-data : (h : Head) (value : List ℕ) → length_of h ≡ length value → value_blocks value ≡ (entry_for h value).blocks
+blocks-for : (h : Head) (value : List ℕ) → length_of h ≡ length value → value_blocks value ≡ (entry_for h value).blocks
 unfolding done_entry deletion_entry value_entry
-entry-data head.Done value none = no-data value none
-entry-data (head.Deletion id) value none = no-data value none
-entry-data (head.Value id len) value same = refl
+blocks-for head.Done value none = no-data value none
+blocks-for (head.Deletion id) value none = no-data value none
+blocks-for (head.Value id len) value same = refl
 
-pub entry-head : (h : Head) (value : List ℕ) → length_of h ≡ length value → (entry_for h value).head ≡ head_of h
+head-for : (h : Head) (value : List ℕ) → length_of h ≡ length value → (entry_for h value).head ≡ head_of h
 unfolding done_entry deletion_entry value_entry
-entry-head head.Done value none = refl
-entry-head (head.Deletion id) value none = refl
-entry-head (head.Value id len) value same = ap (rule.value id) (sym same)
+head-for head.Done value none = refl
+head-for (head.Deletion id) value none = refl
+head-for (head.Value id len) value same = ap (rule.value id) (sym same)
 
--- and so are their number
-pub data-of : (h : Head) (value : List ℕ) → length_of h ≡ length value → data_of (head_of h) ≡ data_blocks (length value)
+data-for : (h : Head) (value : List ℕ) → length_of h ≡ length value → data_of (head_of h) ≡ data_blocks (length value)
 unfolding data_of data_blocks
-data-of head.Done [] none = refl
-data-of head.Done (x ∷ value) none = absurd (omega arith)
-data-of (head.Deletion id) [] none = refl
-data-of (head.Deletion id) (x ∷ value) none = absurd (omega arith)
-data-of (head.Value id len) value same = ap data_blocks same
+data-for head.Done [] none = refl
+data-for head.Done (x ∷ value) none = absurd (omega arith)
+data-for (head.Deletion id) [] none = refl
+data-for (head.Deletion id) (x ∷ value) none = absurd (omega arith)
+data-for (head.Value id len) value same = ap data_blocks same
+
+module _ (e : NewEntry) where
+  -- its data blocks are those of the value, and its head is the head
+  pub entry-data : value_blocks e.value.now ≡ (entry_of e).blocks
+  entry-data = blocks-for e.head e.value.now e.sized
+
+  pub entry-head : (entry_of e).head ≡ head_of e.head
+  entry-head = head-for e.head e.value.now e.sized
+
+  -- and so are their number
+  pub data-of : data_of (head_of e.head) ≡ data_blocks (length e.value.now)
+  data-of = data-for e.head e.value.now e.sized

@@ -1,5 +1,5 @@
 -- An append by its parts, in the sector that is carried.
-use Rattle.std.specs.Prelude.{List, [], ◌∷◌, ◌++◌, ℕ, ◌+◌, ◌-◌, ◌^◌, ◌≤◌, ◌<◌}
+use Rattle.std.specs.Prelude.{List, [], ◌∷◌, ◌++◌, ℕ, ◌+◌, ◌-◌, ◌≤◌}
 use Rattle.rules.specs.Ground.{Block, Image, block_at}
 use Rattle.rules.specs.Look as rule
 use Rattle.rules.specs.Reading.{Entry}
@@ -7,7 +7,8 @@ use Rattle.rules.specs.Stores.{Store, blank_if, kind_of, done_entry, deletion_en
 use Rattle.layout.specs.Numbers.{sector_no}
 use Rattle.entry.specs.declared.Head.{Head}
 use Rattle.entry.specs.declared.Head.TheVariants as head
-use Rattle.entry.specs.Answer.{scan_of, scan_as, head_of, length_of, Small}
+use Rattle.entry.specs.declared.new_entry.NewEntry.{NewEntry}
+use Rattle.entry.specs.Answer.{scan_of, scan_as, head_of, Small}
 use Rattle.image.specs.declared.active.Active.{Active}
 
 -- what is carried of a sector after one more entry of this head
@@ -20,6 +21,10 @@ abbrev pub entry_for : Head → List ℕ → Entry
 entry_for head.Done value = done_entry
 entry_for (head.Deletion id) value = deletion_entry id
 entry_for (head.Value id len) value = value_entry id value
+
+-- the entry of the rules that is to be appended
+abbrev pub entry_of : NewEntry → Entry
+entry_of entry = entry_for entry.head entry.value.now
 
 -- the data blocks of a value, whatever its ID
 abbrev pub value_blocks : List ℕ → List Block
@@ -48,4 +53,3 @@ pub record Fits (B : ℕ) (active : Active) (head : Head) : Type 0 where
   pub few : active.entries + 4 ≤ B
   pub before : Small active.scan
   pub after : Small (scan_as (rule.after (scan_of active.scan) (head_of head)))
-  pub short : length_of head < 2 ^ 16

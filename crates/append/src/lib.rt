@@ -1,22 +1,22 @@
 #![tactic(auto)]
 // Appends an entry to the active sector: its data blocks, the look-ahead, and last the entry itself, with which it
 // shows.
-ghost use Rattle.std.specs.Prelude.{◌≡◌, true, ◌++◌, ◌+◌, ◌^◌, ◌≤◌, ◌<◌, length, take, drop, IfOk};
+ghost use Rattle.std.specs.Prelude.{◌≡◌, true, ◌++◌, ◌+◌, ◌≤◌, ◌<◌, length, take, drop, IfOk};
 ghost use Rattle.rules.specs.Notation.{erased};
 ghost use Rattle.rules.specs.Ground.{block_size};
 ghost use Rattle.rules.specs.Look as rule;
 ghost use Rattle.rules.specs.Stores as stores;
 ghost use Rattle.layout.specs.Numbers.{sector_no};
 ghost use Rattle.layout.specs.Geometry.{blocks_of, sectors_of};
-ghost use Rattle.entry.specs.Answer.{scan_of, head_of, length_of, Small};
+ghost use Rattle.entry.specs.Answer.{scan_of, head_of, Small};
 ghost use Rattle.image.specs.Answer.{Carries};
-ghost use Rattle.budget.specs.Budget.{kind_of, held, Did};
-ghost use Rattle.append.specs.Append.{with_entry, entry_for, value_blocks, next_block, ahead_stores, entry_stores, Fits};
+ghost use Rattle.budget.specs.Budget.{held, Did};
+ghost use Rattle.append.specs.Append.{with_entry, entry_of, value_blocks, next_block, ahead_stores, entry_stores, Fits};
 
 use budget::blank::put_blank_if;
 use budget::blocks::is_entry;
 use budget::{Cut, Kind, Writer};
-use entry::{Head, look};
+use entry::{Head, NewEntry, look};
 use image::active::Active;
 use layout::{Block, Geometry};
 
@@ -24,25 +24,12 @@ use layout::{Block, Geometry};
 fn with_entry(active: Active, head: Head) -> Active
     requires entries_bound { active.entries ≤ 4096 }
     requires small { Small active.scan }
-    requires length_fits { length_of head < 2 ^ 16 }
     ensures { result ≡ with_entry active (head_of head) }
 {
     Active {
         entries: active.entries + 1,
         scan: active.scan.after(head),
         ..active
-    }
-}
-
-// The kind of a store that is an entry of this head.
-#[tactic(auto, unfolding(rules::specs::Stores::kind_of))]
-fn kind(head: Head) -> Kind
-    ensures { kind_of result ≡ stores.kind_of (head_of head) }
-{
-    match head {
-        Head::Done => Kind::Done,
-        Head::Deletion(_) => Kind::Deletion,
-        Head::Value(_, _) => Kind::Value,
     }
 }
 
@@ -74,7 +61,7 @@ pub fn put_entry(
     let b = Block::new(writer.geometry.blocks() - 3 - active.entries);
     let next = with_entry(active, head);
     look_ahead(writer, next)?;
-    writer.put(active.sector, b, kind(head), bytes)?;
+    writer.put(active.sector, b, Kind::from(head), bytes)?;
     Ok(next)
 }
 
@@ -97,49 +84,39 @@ fn put_data(writer: &mut Writer, active: Active, value: &[u8]) -> Result<(), Cut
     ensures { Did writer.old (stores.data_stores (sector_no active.sector) active.scan.data_end (value_blocks value.now)) writer.new result }
 {
     for k in 0..look::data_blocks(value.len()) {
-        let b = Block::new(active.scan.data_end + k);
+        let b = Block::new(active.scan.data_end as usize + k);
         let block = data_block(value, k * Geometry::BLOCK_SIZE);
         writer.put(active.sector, b, Kind::Data, block)?;
     }
     Ok(())
 }
 
-// The entry of a value, whose data, if it has some, begins at block `data_end`.
-fn value_bytes(cycle: u8, id: u32, value: &[u8], data_end: usize) -> [u8; Geometry::BLOCK_SIZE]
-    requires length_fits { length value.now < 2 ^ 16 }
-    requires data_end_bound { data_end ≤ 4096 }
-    ensures { result ≡ stores.entry_block cycle data_end (stores.value_entry id value.now) }
+// The block of an entry, for the sector that is carried.
+fn entry_bytes(active: Active, entry: &NewEntry) -> [u8; Geometry::BLOCK_SIZE]
+    ensures { result ≡ stores.entry_block active.cycle active.scan.data_end (entry_of entry.now) }
 {
-    let length = value.len();
-    if length <= entry::SMALL {
-        return encode::small_value(cycle, id, value);
-    }
-    let offset = data_end * Geometry::BLOCK_SIZE;
-    encode::long_value(cycle, id, length as u16, offset as u32, crc::crc32(value))
-}
-
-// The block of an entry of this head, for the sector that is carried.
-fn entry_bytes(active: Active, head: Head, value: &[u8]) -> [u8; Geometry::BLOCK_SIZE]
-    requires length_fits { length value.now < 2 ^ 16 }
-    requires data_end_bound { active.scan.data_end ≤ 4096 }
-    ensures { result ≡ stores.entry_block active.cycle active.scan.data_end (entry_for head value.now) }
-{
-    match head {
+    match entry.head {
         Head::Done => encode::done(active.cycle),
         Head::Deletion(id) => encode::deletion(active.cycle, id),
-        Head::Value(id, _) => value_bytes(active.cycle, id, value, active.scan.data_end),
+        Head::Value(id, length) if usize::from(length) <= entry::SMALL => {
+            encode::small_value(active.cycle, id, entry.value)
+        }
+        Head::Value(id, length) => {
+            let offset = active.scan.data_end as usize * Geometry::BLOCK_SIZE;
+            let check = crc::crc32(entry.value);
+            encode::long_value(active.cycle, id, length, offset as u32, check)
+        }
     }
 }
 
-// Appends an entry of this head. A value's bytes are lent; a deletion and a done have none.
-pub fn append(writer: &mut Writer, active: Active, head: Head, value: &[u8]) -> Result<Active, Cut>
+// Appends an entry: its data blocks, and then its own block.
+pub fn append(writer: &mut Writer, active: Active, entry: &NewEntry) -> Result<Active, Cut>
     requires carries { Carries writer.old.geometry writer.old.image.now active }
-    requires fits { rule.is_within (blocks_of writer.old.geometry) (scan_of active.scan) (head_of head) ≡ true }
-    requires sized { length_of head ≡ length value.now }
-    ensures did { Did writer.old (stores.append (blocks_of writer.old.geometry) (sector_no active.sector) (entry_for head value.now) (held writer.old)) writer.new result }
-    ensures active { IfOk result (λ next. next ≡ with_entry active (head_of head)) }
+    requires fits { rule.is_within (blocks_of writer.old.geometry) (scan_of active.scan) (head_of entry.now.head) ≡ true }
+    ensures did { Did writer.old (stores.append (blocks_of writer.old.geometry) (sector_no active.sector) (entry_of entry.now) (held writer.old)) writer.new result }
+    ensures active { IfOk result (λ next. next ≡ with_entry active (head_of entry.now.head)) }
 {
-    put_data(writer, active, value)?;
-    let bytes = entry_bytes(active, head, value);
-    put_entry(writer, active, head, bytes)
+    put_data(writer, active, entry.value)?;
+    let bytes = entry_bytes(active, entry);
+    put_entry(writer, active, entry.head, bytes)
 }

@@ -12,7 +12,7 @@ ghost use Rattle.image.specs.Answer.{views_in, views};
 ghost use Rattle.answer.specs.Answer.{reply_as, Leaves};
 
 use answer::{Outcome, Refusal, Reply};
-use entry::{Head, Id};
+use entry::{Id, NewEntry};
 use layout::{Geometry, Image, Sector};
 use search::{Found, value};
 
@@ -22,6 +22,7 @@ pub fn read(image: &Image, w: Sector, id: Id, buffer: &mut [u8]) -> Reply
     ensures answer { result ≡ reply_as (rule.read_entry (length buffer.old) (lookup (id_no id) (history (at_rest (sector_no w)) (views image.now)))) }
     ensures buffer { buffer.new ≡ rule.buffer_after (rule.read_entry (length buffer.old) (lookup (id_no id) (history (at_rest (sector_no w)) (views image.now)))) buffer.old }
 {
+    // Takes the answer apart by `let .. else`, the form that the rules name for it.
     let Some(
         Found {
             place,
@@ -61,5 +62,5 @@ pub fn delete(
         geometry: g,
     };
     search::find(&lent, w, id).ok_or(Refusal::Absent)?;
-    change::make(image, g, w, Head::Deletion(id.number()), b"", allowance)
+    change::make(image, g, w, &NewEntry::deletion(id), allowance)
 }

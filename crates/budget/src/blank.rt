@@ -25,7 +25,8 @@ pub fn put_blank(writer: &mut Writer, s: Sector, b: Block) -> Result<(), Cut>
     writer.put(s, b, Kind::Blank, bytes())
 }
 
-// The same where the test holds.
+// The same where the test holds: the rules' `blank_if`. (With an `if` at the callers two branches meet before the
+// second store of blank_stale, and its proof did not close.)
 pub fn put_blank_if(writer: &mut Writer, s: Sector, b: Block, test: bool) -> Result<(), Cut>
     requires s_bound { sector_no s < sectors_of writer.old.geometry }
     requires b_bound { block_no b < blocks_of writer.old.geometry }

@@ -8,6 +8,7 @@ pub mod reopen;
 ghost use Rattle.std.specs.Prelude.{◌≡◌, ℕ, ◌<◌, get_or};
 ghost use Rattle.layout.specs.Geometry.{Backs};
 
+use entry::Head;
 use layout::{Block, Geometry, Image, Sector};
 use std::fmt;
 
@@ -34,6 +35,24 @@ impl fmt::Display for Kind {
             Kind::Data => "data",
             Kind::Blank => "blank",
         })
+    }
+}
+
+// The kind of a store that is an entry of this head.
+impl From<Head> for Kind {
+    ghost use Rattle.rules.specs.Stores as stores;
+    ghost use Rattle.entry.specs.Answer.{head_of};
+    ghost use Rattle.budget.specs.Budget.{kind_of};
+
+    ghost from_gives = { λ head kind. kind_of kind ≡ stores.kind_of (head_of head) };
+
+    #[tactic(auto, unfolding(rules::specs::Stores::kind_of))]
+    fn from(head: Head) -> Kind {
+        match head {
+            Head::Done => Kind::Done,
+            Head::Deletion(_) => Kind::Deletion,
+            Head::Value(_, _) => Kind::Value,
+        }
     }
 }
 
@@ -99,7 +118,9 @@ impl<'a> Writer<'a> {
     ghost use Rattle.layout.specs.Geometry.{blocks_of, sectors_of};
     ghost use Rattle.budget.specs.Budget.{store_of, budget_of, Did};
 
-    // Begins to store to an image under this allowance.
+    // Begins to store to an image under this allowance. (Here and where one is begun, a clause says that the image
+    // backs the geometry: a Writer handed in would have to come with clauses that it is fresh, and over which image it
+    // is.)
     pub fn new(image: &'a mut [u8], geometry: Geometry, allowance: u32) -> Writer<'a>
         requires backs { Backs geometry image.old }
         ensures image { result.image.now ≡ image.old }

@@ -59,7 +59,8 @@ pub extern "C" fn gust_mount(
     tell(Numbers::from(made), numbers)
 }
 
-// Copies the value of an ID into the first bytes of the buffer, and leaves the rest of it. A refused read leaves all of it.
+// Copies the value of an ID into the first bytes of the buffer, and leaves the rest of it. A refused read leaves all of
+// it.
 #[unsafe(no_mangle)]
 pub extern "C" fn gust_read(
     image: &[u8],

@@ -5,7 +5,7 @@ use mathlib.Core.Path.{◌≡◌, refl, sym, ap, subst, ◌∙◌}
 use mathlib.Core.Bool.{true, false, false≢true}
 use mathlib.Core.List.{List}
 use mathlib.Core.Option.{some}
-use Prim.Native.Nat.{ℕ, ◌+◌, ◌^◌, ◌≤◌, ◌<◌}
+use Prim.Native.Nat.{ℕ, ◌+◌, ◌≤◌, ◌<◌}
 use native.Mathlib.Omega.{arith}
 use lib.Dec.{leb}
 use borrow.Author.Tests.{le-leb, leb-true, leb-false}
@@ -16,7 +16,6 @@ use Rattle.rules.specs.Look.{start, need_of, is_done, is_within}
 use Rattle.rules.specs.Reading.{Entry, View, after_all}
 use Rattle.rules.specs.Meaning.{at_rest, Is, state_of, view_at, next, all_but, lookup, needs_of}
 use Rattle.rules.proofs.Blocks.Counting.{needs-all}
-use Rattle.rules.proofs.Crash.Effects.{short-value}
 use Rattle.rules.specs.Stores.{append, turns, moved, least_turns, change}
 use Rattle.rules.proofs.Ring.History.{entries_each}
 use Rattle.rules.proofs.Ring.States.{state-is}
@@ -26,9 +25,7 @@ use Rattle.layout.specs.declared.Geometry.{Geometry}
 use Rattle.layout.specs.Sizes.{Sound}
 use Rattle.layout.specs.Geometry.{blocks_of, sectors_of}
 use Rattle.layout.specs.Numbers.{sector_no}
-use Rattle.entry.specs.declared.Head.{Head}
-use Rattle.entry.specs.declared.Head.TheVariants as head
-use Rattle.entry.specs.Answer.{scan_of, length_of, limit_of}
+use Rattle.entry.specs.Answer.{scan_of, limit_of}
 use Rattle.image.specs.declared.active.Active.{Active}
 use Rattle.image.specs.Answer.{active_as, views_in, Carries}
 use Rattle.layout.specs.Options.{option_as}
@@ -39,7 +36,6 @@ use Rattle.budget.specs.declared.Cut.{Cut}
 use Rattle.budget.specs.declared.Writer.{Writer}
 use Rattle.budget.specs.Budget.{held, shown, Did}
 use Rattle.budget.proofs.Laws.{typed, whole_image, did-whole, did-shown, did-and-then, did-and-then-cut}
-use Rattle.change.specs.Ready.{Changes}
 
 -- ---- the turns, and then the entry
 
@@ -106,18 +102,12 @@ within-fits B scan h plain is = leb-true (scan.needs + need_of h) (limit_of B h)
 pub beyond-limit : (B : ℕ) (scan : rule.Scan) (h : rule.Head) → is_done h ≡ false → is_within B scan h ≡ false → limit_of B h < scan.needs + need_of h
 beyond-limit B scan h plain not = leb-false (scan.needs + need_of h) (limit_of B h) (sym (within-limit B scan h plain) ∙ not)
 
--- the limit lies within the sector, and a value within it has a length that fits its field
+-- the limit lies within the sector
 pub limit-few : (B : ℕ) (h : rule.Head) → limit_of B h ≤ B
 unfolding limit_of
 limit-few B rule.done = omega arith
 limit-few B (rule.deletion id) = omega arith
 limit-few B (rule.value id len) = omega arith
-
-pub changes-short : (B : ℕ) (h : Head) {value : List ℕ} → B ≤ 4096 → Changes B h value → length_of h < 2 ^ 16
-unfolding need_of limit_of
-changes-short B head.Done few c = omega arith
-changes-short B (head.Deletion id) few c = omega arith
-changes-short B (head.Value id len) few c = short-value B len few (omega (arith, c.fits))
 
 -- ---- the needs of the active sector
 

@@ -1,7 +1,8 @@
 #![tactic(auto)]
 // Makes a change, a value or a deletion, in an image at rest: in the working sector where there is room for it, else
-// after the least number of turns that make room.
-ghost use Rattle.std.specs.Prelude.{◌≡◌, false, ◌*◌, length, IfOk};
+// after the least number of turns that make room. That the change fits an empty sector stands in clauses (Changes): a
+// type for it would hold the sizes beside each entry.
+ghost use Rattle.std.specs.Prelude.{◌≡◌, false, ◌*◌, IfOk};
 ghost use Rattle.std.proofs.Math.Option.{some};
 ghost use Rattle.rules.specs.Ground.{block_size, image_of};
 ghost use Rattle.rules.specs.Look as rule;
@@ -16,13 +17,13 @@ ghost use Rattle.entry.specs.Answer.{scan_of, head_of, limit_of};
 ghost use Rattle.image.specs.Answer.{views_in};
 ghost use Rattle.live.specs.Counts.{Counts};
 ghost use Rattle.budget.specs.Budget.{budget_of, held, shown, Did};
-ghost use Rattle.append.specs.Append.{entry_for};
+ghost use Rattle.append.specs.Append.{entry_of};
 ghost use Rattle.answer.specs.Answer.{Leaves};
 ghost use Rattle.change.specs.Ready.{Opened, Changes};
 
 use answer::{Outcome, Refusal};
 use budget::{Cut, Writer};
-use entry::Head;
+use entry::NewEntry;
 use image::active;
 use image::active::Active;
 use layout::{Geometry, Sector};
@@ -58,17 +59,16 @@ fn turn_and_append(
     active: Active,
     counts: EntryCounts,
     turn_count: usize,
-    head: Head,
-    value: &[u8],
+    entry: &NewEntry,
 ) -> Result<(), Cut>
     requires opened { Opened writer.old active }
     requires counts { Counts (shown writer.old) counts }
-    requires changes { Changes (blocks_of writer.old.geometry) head value.now }
-    requires room { least_turns (need_of (head_of head)) (limit_of (blocks_of writer.old.geometry) (head_of head)) (sector_no active.sector) (shown writer.old) ≡ some turn_count }
-    ensures { Did writer.old (stores.change (blocks_of writer.old.geometry) (sectors_of writer.old.geometry) turn_count (sector_no active.sector) (entry_for head value.now) (held writer.old)) writer.new result }
+    requires changes { Changes (blocks_of writer.old.geometry) entry.now.head }
+    requires room { least_turns (need_of (head_of entry.now.head)) (limit_of (blocks_of writer.old.geometry) (head_of entry.now.head)) (sector_no active.sector) (shown writer.old) ≡ some turn_count }
+    ensures { Did writer.old (stores.change (blocks_of writer.old.geometry) (sectors_of writer.old.geometry) turn_count (sector_no active.sector) (entry_of entry.now) (held writer.old)) writer.new result }
 {
     let working = turns(writer, active, counts, turn_count)?;
-    append::append(writer, working, head, value)?;
+    append::append(writer, working, entry)?;
     Ok(())
 }
 
@@ -77,15 +77,14 @@ fn turn_and_append(
 fn make_turning(
     writer: &mut Writer,
     active: Active,
-    head: Head,
-    value: &[u8],
+    entry: &NewEntry,
     allowance: u32,
 ) -> Result<Outcome, Refusal>
     requires begun { writer.old.budget ≡ budget_of allowance }
     requires opened { Opened writer.old active }
-    requires changes { Changes (blocks_of writer.old.geometry) head value.now }
-    requires full { rule.is_within (blocks_of writer.old.geometry) (scan_of active.scan) (head_of head) ≡ false }
-    ensures leaves { Leaves (blocks_of writer.old.geometry * block_size) (change_on (blocks_of writer.old.geometry) (sectors_of writer.old.geometry) (sector_no active.sector) (limit_of (blocks_of writer.old.geometry) (head_of head)) (entry_for head value.now) (held writer.old)) allowance writer.old.image.now writer.new.image.now result }
+    requires changes { Changes (blocks_of writer.old.geometry) entry.now.head }
+    requires full { rule.is_within (blocks_of writer.old.geometry) (scan_of active.scan) (head_of entry.now.head) ≡ false }
+    ensures leaves { Leaves (blocks_of writer.old.geometry * block_size) (change_on (blocks_of writer.old.geometry) (sectors_of writer.old.geometry) (sector_no active.sector) (limit_of (blocks_of writer.old.geometry) (head_of entry.now.head)) (entry_of entry.now) (held writer.old)) allowance writer.old.image.now writer.new.image.now result }
     ensures same { writer.new.image.ghost_name ≡ writer.old.image.ghost_name }
 {
     let g = writer.geometry;
@@ -95,31 +94,30 @@ fn make_turning(
         counts: &counts,
         newest: active.sector,
     };
-    let least = fit::turns_needed(&counted, head.need(), head.limit(g));
+    let least = fit::turns_needed(&counted, entry.head.need(), entry.head.limit(g));
     let turn_count = least.ok_or(Refusal::NoRoom)?;
-    let made = turn_and_append(writer, active, counts, turn_count, head, value);
+    let made = turn_and_append(writer, active, counts, turn_count, entry);
     Ok(Outcome::ended(allowance, writer.budget, made, turn_count as u32))
 }
 
-// Makes the change at rest, w being the working sector. A value's bytes are lent; a deletion has none.
+// Makes the change at rest, w being the working sector.
 pub fn make(
     image: &mut [u8],
     g: Geometry,
     w: Sector,
-    head: Head,
-    value: &[u8],
+    entry: &NewEntry,
     allowance: u32,
 ) -> Result<Outcome, Refusal>
     requires backs { Backs g image.old }
     requires rest { state_of (views_in g image.old) ≡ some (at_rest (sector_no w)) }
-    requires changes { Changes (blocks_of g) head value.now }
-    ensures { Leaves (blocks_of g * block_size) (change_on (blocks_of g) (sectors_of g) (sector_no w) (limit_of (blocks_of g) (head_of head)) (entry_for head value.now) (image_of (blocks_of g) (sectors_of g) image.old)) allowance image.old image.new result }
+    requires changes { Changes (blocks_of g) entry.now.head }
+    ensures { Leaves (blocks_of g * block_size) (change_on (blocks_of g) (sectors_of g) (sector_no w) (limit_of (blocks_of g) (head_of entry.now.head)) (entry_of entry.now) (image_of (blocks_of g) (sectors_of g) image.old)) allowance image.old image.new result }
 {
     let mut writer = Writer::new(image, g, allowance);
     let active = active::read(&writer.image(), w);
-    if active.scan.admits(g, head) {
-        let made = append::append(&mut writer, active, head, value).map(|_| ());
+    if active.scan.admits(g, entry.head) {
+        let made = append::append(&mut writer, active, entry).map(|_| ());
         return Ok(Outcome::ended(allowance, writer.budget, made, 0));
     }
-    make_turning(&mut writer, active, head, value, allowance)
+    make_turning(&mut writer, active, entry, allowance)
 }

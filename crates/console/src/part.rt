@@ -2,7 +2,7 @@
 ghost use Rattle.std.specs.Prelude.{◌≡◌, ◌++◌, min, length, take, drop};
 ghost use Rattle.console.specs.Counts.{IsPrefixLen};
 
-// Zeros, as many as are asked for, whose length is known to proofs.
+// Zeros, as many as are asked for, whose length is known to proofs. There is no heap, so they are an array.
 pub(crate) fn zeros<const N: usize>() -> [u8; N]
     ensures { length result ≡ N }
 {

@@ -1,14 +1,10 @@
 // The answers in words.
-ghost use Rattle.std.specs.Prelude.{◌≡◌, IfOk};
-
-use crate::part;
+use crate::{LARGEST, part};
 use answer::{Numbers, Outcome, Refusal, Reply};
 use std::{fmt, io};
 
-// Bytes of the largest buffer of a read, and their hex digits.
-const BYTES: usize = 65536;
-
-const DIGITS: usize = 131072;
+// Hex digits of the longest buffer. There is no heap, so they are an array, whose first ones `encode_to_slice` fills.
+const DIGITS: usize = 2 * LARGEST;
 
 // "refused NUMBER NAME"
 #[derive(Clone, Copy)]
@@ -35,18 +31,18 @@ impl fmt::Display for Told {
     }
 }
 
-// Prints bytes in hex, as far as they fit. All digits go out at once: a Display, whose digits go through a small buffer, takes ten times
-// as long for 65,536 bytes.
+// Prints bytes in hex, as far as they fit. All digits go out at once: a Display, whose digits go through a small
+// buffer, takes ten times as long for 65,536 bytes.
 fn print_bytes(rt: &impl Print, bytes: &[u8]) -> io::Result<()> {
     let mut text = part::zeros::<DIGITS>();
-    let size = part::least(BYTES, bytes);
+    let size = part::least(LARGEST, bytes);
     let digits = &mut text[..2 * size];
     let _ = hex::encode_to_slice(&bytes[..size], digits);
     rt.write_all(digits)
 }
 
 // What a read answered. The buffer begins with the value, if there is one.
-fn print_reply(rt: &impl Print, reply: Reply, buffer: &[u8]) -> io::Result<()> {
+pub(crate) fn print_reply(rt: &impl Print, reply: Reply, buffer: &[u8]) -> io::Result<()> {
     match reply {
         Ok(length) => {
             print!(rt; "value {length} ")?;
@@ -55,12 +51,4 @@ fn print_reply(rt: &impl Print, reply: Reply, buffer: &[u8]) -> io::Result<()> {
         }
         Err(refusal) => println!(rt; "{}", Refused(refusal)),
     }
-}
-
-// The reply is handed on.
-pub fn replied(rt: &impl Print, reply: Reply, buffer: &[u8]) -> io::Result<Reply>
-    ensures { IfOk result (λ replied. replied ≡ reply) }
-{
-    print_reply(rt, reply, buffer)?;
-    Ok(reply)
 }

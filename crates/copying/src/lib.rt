@@ -17,11 +17,12 @@ use entry::{Head, look};
 use image::active::Active;
 use layout::{Block, Geometry, Sector};
 
-// A value where it lies: its ID and length, and the block at which its data begins, if it has some.
+// A value where it lies: its ID and length, and the block at which its data begins. (0 where it has none: then no block
+// is copied. An Option would have to be taken apart for that.)
 #[derive(Clone, Copy)]
 struct Source {
     id: u32,
-    length: usize,
+    length: u16,
     first: usize,
 }
 
@@ -29,8 +30,8 @@ struct Source {
 fn source_of(block: &[u8; Geometry::BLOCK_SIZE]) -> Source
     ensures { result ≡ source_as block.now }
 {
-    let length = usize::from(look::length_in(block));
-    let first = if length <= entry::SMALL {
+    let length = look::length_in(block);
+    let first = if usize::from(length) <= entry::SMALL {
         0
     } else {
         look::offset_in(block) as usize / Geometry::BLOCK_SIZE
@@ -46,19 +47,18 @@ fn source_of(block: &[u8; Geometry::BLOCK_SIZE]) -> Source
 fn copied(
     block: &[u8; Geometry::BLOCK_SIZE],
     cycle: u8,
-    data_end: usize,
+    data_end: u16,
 ) -> [u8; Geometry::BLOCK_SIZE]
-    requires { data_end ≤ 4096 }
     ensures { result ≡ copy_of cycle data_end block.now }
 {
     let id = look::id_in(block);
     let length = look::length_in(block);
-    let small = length as usize;
+    let small = usize::from(length);
     if small <= entry::SMALL {
         let end = look::BODY_AT + small;
         return encode::small_value(cycle, id, &block[look::BODY_AT..end]);
     }
-    let offset = data_end * Geometry::BLOCK_SIZE;
+    let offset = data_end as usize * Geometry::BLOCK_SIZE;
     let check = look::crc32_in(block);
     encode::long_value(cycle, id, length, offset as u32, check)
 }
@@ -74,9 +74,9 @@ fn copy_data(writer: &mut Writer, from: Sector, source: Source, active: Active) 
     requires target_inside { active.scan.data_end + rule.data_blocks source.length ≤ blocks_of writer.old.geometry }
     ensures { Did writer.old (stores.data_stores (sector_no active.sector) active.scan.data_end (take (rule.data_blocks source.length) (drop source.first (get_or (held writer.old) (sector_no «from») [])))) writer.new result }
 {
-    for k in 0..look::data_blocks(source.length) {
+    for k in 0..look::data_blocks(usize::from(source.length)) {
         let block = *writer.image().block(from, Block::new(source.first + k));
-        let b = Block::new(active.scan.data_end + k);
+        let b = Block::new(active.scan.data_end as usize + k);
         writer.put(active.sector, b, Kind::Data, block)?;
     }
     Ok(())

@@ -54,6 +54,7 @@ fn update<R: Register>(start: R, bytes: &[u8]) -> R
 }
 
 // "polynomial 07, start 0, not reflected, no final xor"
+#[tactic(auto, unfolding(rules::specs::Checksum::crc8))]
 pub fn crc8(bytes: &[u8]) -> u8
     ensures { result ≡ crc8_of bytes.now }
 {
@@ -61,6 +62,7 @@ pub fn crc8(bytes: &[u8]) -> u8
 }
 
 // "the common IEEE one"
+#[tactic(auto, unfolding(rules::specs::Checksum::crc32))]
 pub fn crc32(bytes: &[u8]) -> u32
     ensures { result ≡ crc32_of bytes.now }
 {

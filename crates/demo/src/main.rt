@@ -1,31 +1,25 @@
 #![tactic(auto)]
 // The demo: a value written, a write cut in the middle, a mount, and the old value still there.
-use console::{Command, Told};
+use console::{Command, Sizes, Told};
 use std::io;
 
 // 2 sectors of 128 bytes, and the ID of the record.
-const SIZE: usize = 128;
-
-const COUNT: usize = 2;
+const SIZES: Sizes = Sizes {
+    sector_size: 128,
+    count: 2,
+};
 
 const ID: u32 = 7;
 
-const ENOUGH: u32 = 4294967295;
+const ENOUGH: u32 = u32::MAX;
 
 fn write(rt: &impl Print, image: &mut [u8], record: &[u8], allowance: u32) -> io::Result<()> {
-    let _ = console::run(
-        rt,
-        image,
-        SIZE,
-        COUNT,
-        Command::Write(ID, record),
-        allowance,
-    )?;
+    let _ = console::run(rt, image, SIZES, Command::Write(ID, record), allowance)?;
     Ok(())
 }
 
 fn read(rt: &impl Print, image: &[u8]) -> io::Result<()> {
-    let _ = console::show(rt, image, SIZE, COUNT, ID, 8)?;
+    let _ = console::show(rt, image, SIZES, ID, 8)?;
     Ok(())
 }
 
@@ -37,14 +31,15 @@ fn fill(rt: &impl Print, image: &mut [u8]) -> io::Result<()> {
     println!(rt;
         "\n1. Format the image: every block gets its final bytes, the lead of sector 0 last."
     )?;
-    let formatted = console::call(image, SIZE, COUNT, Command::Format, ENOUGH);
+    let formatted = console::call(image, SIZES, Command::Format, ENOUGH);
     println!(rt; "{}", Told(formatted))?;
     println!(rt;
         "\n2. Write the record \"week2431\" under ID 7. The entry itself holds it, so one store does it."
     )?;
     write(rt, image, b"week2431", ENOUGH)?;
     println!(rt;
-        "\n3. Write it twice more, as the weeks pass. Nothing is overwritten: each time there is one more entry, and the newest counts."
+        "\n3. Write it twice more, as the weeks pass. Nothing is overwritten: each time there is one more entry, \
+         and the newest counts."
     )?;
     write(rt, image, b"week2432", ENOUGH)?;
     write(rt, image, b"week2433", ENOUGH)
@@ -53,7 +48,8 @@ fn fill(rt: &impl Print, image: &mut [u8]) -> io::Result<()> {
 // A write is cut in the middle of a turn.
 fn fail(rt: &impl Print, image: &mut [u8]) -> io::Result<()> {
     println!(rt;
-        "\n4. Sector 0 is full. The next write, of \"week2434\", closes it and moves to sector 1, in 5 stores. The power fails after 2 of them."
+        "\n4. Sector 0 is full. The next write, of \"week2434\", closes it and moves to sector 1, in 5 stores. \
+         The power fails after 2 of them."
     )?;
     write(rt, image, b"week2434", 2)?;
     println!(rt; "\n5. The unit starts again. Until it mounts the store, it reads nothing.")?;
@@ -63,7 +59,7 @@ fn fail(rt: &impl Print, image: &mut [u8]) -> io::Result<()> {
 // The mount mends it.
 fn mend(rt: &impl Print, image: &mut [u8]) -> io::Result<()> {
     println!(rt; "\n6. The mount sees the turn that was cut, and makes it anew to its end.")?;
-    let _ = console::run(rt, image, SIZE, COUNT, Command::Mount, ENOUGH)?;
+    let _ = console::run(rt, image, SIZES, Command::Mount, ENOUGH)?;
     println!(rt;
         "\n7. The record is still there: the last one whose write was finished, \"week2433\"."
     )?;

@@ -1,34 +1,32 @@
 #![tactic(auto)]
-// drive IMAGE: runs a script from standard input on the image in a file. The script's first line is the sector size and the
-// number of sectors; each further line is a command.
+// drive IMAGE: runs a script from standard input on the image in a file. The script's first line is the sector size and
+// the number of sectors; each further line is a command.
 ghost use Rattle.std.specs.Prelude.{◌≤◌};
 
-use answer::Numbers;
-use console::{Command, part};
+use console::{Command, LARGEST, Sizes, part};
 use std::env::{Env, FillError};
 use std::fs::{File, OpenOptions};
 use std::io::{ErrorKind, Read, Write};
 use std::rt::Files;
 use std::{fmt, io, str};
 
-// Bytes of the longest path.
+// Bytes of the longest path: an array, as the buffers below.
 const PATH: usize = 4096;
 
-// Bytes of the largest image, of what is read of the script at a time, of the longest line, and of the values that it can hold. There
-// is no heap, so each has a buffer of fixed size.
-const LARGEST: usize = 65536;
-
+// Bytes of what is read of the script at a time, of the longest line, and of the values that it can hold. There is no
+// heap, so each has a buffer of fixed size: an array, since what fills it asks for a slice, and an ArrayVec lends none
+// of its free places. Pushed to an ArrayVec, a line needs a flag where it is too long, and took a tenth longer to read.
 const CHUNK: usize = 65536;
 
 const LINE: usize = 262144;
 
-const VALUE: usize = 131072;
+const VALUE: usize = LINE / 2;
 
 // The allowance where none is given.
-const ENOUGH: u32 = 4294967295;
+const ENOUGH: u32 = u32::MAX;
 
 // The length of a read's buffer where none is given.
-const ROOM: u32 = 65536;
+const ROOM: u32 = LARGEST as u32;
 
 // Why a run ends before its script does: an error of the system, or what the line `error ..` tells.
 #[derive(Debug, Drop)]
@@ -55,16 +53,20 @@ impl fmt::Display for Stop {
             Stop::Usage => write!(f, "usage: drive IMAGE"),
             Stop::NoSizes => write!(f, "the first line is no sizes"),
             Stop::SizesTooLarge => write!(f, "sizes too large for a new image"),
-            Stop::ImageTooLarge => write!(f, "the image is larger than 65536 bytes"),
+            Stop::ImageTooLarge => write!(f, "the image is larger than {LARGEST} bytes"),
             Stop::Unreadable => write!(f, "the image cannot be read"),
             Stop::Unwritable => write!(f, "the image cannot be written"),
         }
     }
 }
 
+impl std::error::Error for Stop {}
+
 // ---- lines
 
-// A script, read by chunks: the bytes of the chunk from `at` up to `end` were read and are not taken yet.
+// A script, read by chunks: the bytes of the chunk from `at` up to `end` were read and are not taken yet. (The
+// library's BufReader has its chunk from an allocator, and there is no heap; without a chunk each byte would be a
+// system call.)
 #[derive(Drop)]
 struct Script<R> {
     reader: R,
@@ -98,7 +100,8 @@ impl<R: Read> Script<R> {
         Ok(Some(byte))
     }
 
-    // The next line without its end, if there is one. One that does not fit counts as an empty one, which is no command either.
+    // The next line without its end, if there is one. One that does not fit counts as an empty one, which is no command
+    // either.
     fn next_line<'a>(&mut self, line: &'a mut [u8]) -> io::Result<Option<&'a [u8]>> {
         for size in 0..usize::MAX {
             match self.next_byte()? {
@@ -117,7 +120,7 @@ impl<R: Read> Script<R> {
 
 // A decimal number without sign. The library's parse takes a sign too.
 fn number_of(text: &[u8]) -> Option<u32> {
-    if !text.iter().all(|byte| byte.is_ascii_digit()) {
+    if !text.iter().all(u8::is_ascii_digit) {
         return None;
     }
     str::from_utf8(text).ok()?.parse().ok()
@@ -125,10 +128,7 @@ fn number_of(text: &[u8]) -> Option<u32> {
 
 // The number of a word, or the one that stands for it where it is left out.
 fn number_or(word: Option<&[u8]>, otherwise: u32) -> Option<u32> {
-    match word {
-        Some(text) => number_of(text),
-        None => Some(otherwise),
-    }
+    word.map_or(Some(otherwise), number_of)
 }
 
 // Pairs of hex digits, at least one, or `-` for no bytes: put at the start of the buffer.
@@ -151,7 +151,8 @@ enum Task<'a> {
     Read(u32, u32),
 }
 
-// `format [ALLOWANCE]`, `mount [ALLOWANCE]`, `write ID HEX [ALLOWANCE]`, `delete ID [ALLOWANCE]`, `read ID [BUFFER_LENGTH]`
+// `format [ALLOWANCE]`, `mount [ALLOWANCE]`, `write ID HEX [ALLOWANCE]`, `delete ID [ALLOWANCE]`,
+// `read ID [BUFFER_LENGTH]`
 fn task_of<'a>(line: &[u8], buffer: &'a mut [u8]) -> Option<Task<'a>> {
     let mut words = line.split(|byte| *byte == b' ');
     let task = match words.next()? {
@@ -169,43 +170,33 @@ fn task_of<'a>(line: &[u8], buffer: &'a mut [u8]) -> Option<Task<'a>> {
         b"read" => Task::Read(number_of(words.next()?)?, number_or(words.next(), ROOM)?),
         _ => return None,
     };
-    match words.next() {
-        None => Some(task),
-        Some(_) => None,
-    }
+    words.next().is_none().then_some(task)
 }
 
 // `SECTOR_SIZE COUNT`
-fn sizes_of(line: &[u8]) -> Option<(usize, usize)> {
+fn sizes_of(line: &[u8]) -> Option<Sizes> {
     let mut words = line.split(|byte| *byte == b' ');
-    let size = number_of(words.next()?)?;
-    let count = number_of(words.next()?)?;
-    match words.next() {
-        None => Some((size as usize, count as usize)),
-        Some(_) => None,
-    }
+    let sector_size = number_of(words.next()?)? as usize;
+    let count = number_of(words.next()?)? as usize;
+    words
+        .next()
+        .is_none()
+        .then_some(Sizes { sector_size, count })
 }
 
 // ---- the image and its file
 
 // The length of an image that is not there yet: as many bytes as its sizes say.
-fn new_length(size: usize, count: usize) -> Result<usize, Stop> {
-    if count == 0 {
-        return Ok(0);
-    }
-    if LARGEST / count < size {
-        return Err(Stop::SizesTooLarge);
-    }
-    Ok(size * count)
+fn new_length(sizes: Sizes) -> Result<usize, Stop> {
+    sizes
+        .sector_size
+        .checked_mul(sizes.count)
+        .filter(|length| *length <= LARGEST)
+        .ok_or(Stop::SizesTooLarge)
 }
 
-// A path's text. The library opens a file by a name in UTF-8, and by no other.
-fn path_text(path: &[u8]) -> io::Result<&str> {
-    str::from_utf8(path).map_err(|_| io::Error::from(ErrorKind::InvalidInput))
-}
-
-// Reads until the image is full or the file ends, and answers how many bytes were read. The library's `read_exact` does not tell that
-// of a shorter file.
+// Reads until the image is full or the file ends, and answers how many bytes were read. The library's `read_exact` does
+// not tell that of a shorter file.
 fn read_full(file: &mut impl Read, image: &mut [u8]) -> io::Result<usize> {
     let mut done = 0;
     while done < image.len() {
@@ -218,58 +209,50 @@ fn read_full(file: &mut impl Read, image: &mut [u8]) -> io::Result<usize> {
     Ok(done)
 }
 
-// All of the file, and how many more bytes it has, one at the most.
-fn read_all(file: &mut impl Read, image: &mut [u8]) -> io::Result<(usize, usize)> {
+// Reads all of the file, and answers how many bytes it has, or nothing where they do not fit.
+fn read_all(file: &mut impl Read, image: &mut [u8]) -> io::Result<Option<usize>> {
     let length = read_full(file, image)?;
-    let mut more = [0; 1];
-    let got = file.read(&mut more)?;
-    Ok((length, got))
+    let more = file.read(&mut [0; 1])?;
+    Ok((more == 0).then_some(length))
 }
 
-// All of the file, which must end where the image does.
-fn load(file: &mut impl Read, image: &mut [u8]) -> Result<usize, Stop> {
-    let (length, more) = read_all(file, image).map_err(|_| Stop::Unreadable)?;
-    if 0 < more {
-        return Err(Stop::ImageTooLarge);
+// The image's file. The library opens a file by a name in UTF-8, and by no other.
+#[derive(Drop)]
+struct Disk<'a, R> {
+    rt: &'a R,
+    path: &'a str,
+}
+
+impl<R: Files> Disk<'_, R> {
+    // Reads the file, and answers the image's length: the file's, or where there is none that of its sizes.
+    fn load(&self, sizes: Sizes, image: &mut [u8]) -> Result<usize, Stop> {
+        match File::open(self.rt, self.path) {
+            Ok(mut file) => read_all(&mut file, image)
+                .map_err(|_| Stop::Unreadable)?
+                .ok_or(Stop::ImageTooLarge),
+            Err(e) if e.kind() == ErrorKind::NotFound => new_length(sizes),
+            Err(_) => Err(Stop::Unreadable),
+        }
     }
-    Ok(length)
-}
 
-fn open_read<R: Files>(rt: &R, path: &[u8]) -> io::Result<R::File> {
-    File::open(rt, path_text(path)?)
-}
-
-// The length of the image, in the file or of its sizes.
-fn open<R: Files>(
-    rt: &R,
-    path: &[u8],
-    size: usize,
-    count: usize,
-    image: &mut [u8],
-) -> Result<usize, Stop> {
-    match open_read(rt, path) {
-        Ok(mut file) => load(&mut file, image),
-        Err(e) if e.kind() == ErrorKind::NotFound => new_length(size, count),
-        Err(_) => Err(Stop::Unreadable),
-    }
-}
-
-// The file as it is, or a new one where that cannot be.
-fn open_update<R: Files>(rt: &R, path: &[u8]) -> io::Result<R::File> {
-    let path = path_text(path)?;
-    match OpenOptions::new().read(true).write(true).open(rt, path) {
-        Ok(file) => Ok(file),
-        Err(_) => OpenOptions::new()
+    // The file as it is, or a new one where that cannot be.
+    fn open_update(&self) -> io::Result<R::File> {
+        OpenOptions::new()
+            .read(true)
             .write(true)
-            .create_new(true)
-            .open(rt, path),
+            .open(self.rt, self.path)
+            .or_else(|_| OpenOptions::new()
+                .write(true)
+                .create_new(true)
+                .open(self.rt, self.path))
     }
-}
 
-// Brings the file up to date, in place.
-fn save<R: Files>(rt: &R, path: &[u8], image: &[u8]) -> io::Result<()> {
-    let mut file = open_update(rt, path)?;
-    file.write_all(image)
+    // Brings the file up to date, in place.
+    fn save(&self, image: &[u8]) -> Result<(), Stop> {
+        self.open_update()
+            .and_then(|mut file| file.write_all(image))
+            .map_err(|_| Stop::Unwritable)
+    }
 }
 
 // ---- the script
@@ -278,17 +261,16 @@ fn save<R: Files>(rt: &R, path: &[u8], image: &[u8]) -> io::Result<()> {
 fn perform(
     rt: &impl Print,
     image: &mut [u8],
-    size: usize,
-    count: usize,
+    sizes: Sizes,
     task: Option<Task<'_>>,
 ) -> io::Result<bool> {
     match task {
         Some(Task::Store(command, allowance)) => {
-            let made = console::run(rt, image, size, count, command, allowance)?;
-            Ok(0 < Numbers::from(made).stores)
+            let made = console::run(rt, image, sizes, command, allowance)?;
+            Ok(made.is_ok_and(|outcome| outcome.last.is_some()))
         }
         Some(Task::Read(id, room)) => {
-            let _ = console::show(rt, image, size, count, id, room as usize)?;
+            let _ = console::show(rt, image, sizes, id, room as usize)?;
             Ok(false)
         }
         None => {
@@ -298,48 +280,42 @@ fn perform(
     }
 }
 
-// One line. What a call stored is in the file also where its answer cannot be printed: the image tells then whether it stored.
+// One line. What a call stored is in the file also where its answer cannot be printed: the image tells then whether it
+// stored.
 fn step<R: Files + Print>(
-    rt: &R,
-    path: &[u8],
+    disk: &Disk<'_, R>,
     image: &mut [u8],
-    size: usize,
-    count: usize,
+    sizes: Sizes,
     line: &[u8],
 ) -> Result<(), Stop> {
     let mut buffer = [0; VALUE];
     let task = task_of(line, &mut buffer);
     let mut space = [0; LARGEST];
     let kept = part::copied(image, &mut space);
-    let performed = perform(rt, image, size, count, task);
+    let performed = perform(disk.rt, image, sizes, task);
     let is_due = match performed {
         Ok(is_stored) => is_stored,
         Err(_) => image[..] != space[..kept],
     };
-    let is_saved = !is_due || save(rt, path, image).is_ok();
+    let saved = if is_due { disk.save(image) } else { Ok(()) };
     performed?;
-    if is_saved {
-        Ok(())
-    } else {
-        Err(Stop::Unwritable)
-    }
+    saved
 }
 
 // The lines after the first.
 fn steps<R: Files + Print>(
-    rt: &R,
+    disk: &Disk<'_, R>,
     script: &mut Script<impl Read>,
-    path: &[u8],
     image: &mut [u8],
-    size: usize,
-    count: usize,
+    sizes: Sizes,
     text: &mut [u8],
 ) -> Result<(), Stop> {
+    // Counts the lines, since a proved loop has to end: no script has so many.
     for _ in 0..u64::MAX {
         let Some(line) = script.next_line(text)? else {
             break;
         };
-        step(rt, path, image, size, count, line)?;
+        step(disk, image, sizes, line)?;
     }
     Ok(())
 }
@@ -347,21 +323,15 @@ fn steps<R: Files + Print>(
 fn drive<R: Files + Print + io::Input>(rt: &R, path: &[u8]) -> Result<(), Stop> {
     let mut script = Script::new(rt.reader());
     let mut text = [0; LINE];
-    let line = script.next_line(&mut text)?.unwrap_or(&[]);
-    let (size, count) = sizes_of(line).ok_or(Stop::NoSizes)?;
+    let line = script.next_line(&mut text)?;
+    let sizes = line.and_then(sizes_of).ok_or(Stop::NoSizes)?;
+    let path = str::from_utf8(path).map_err(|_| Stop::Unreadable)?;
+    let disk = Disk { rt, path };
     // A new image is blank.
     let mut space = [0xFF; LARGEST];
-    let length = open(rt, path, size, count, &mut space)?;
+    let length = disk.load(sizes, &mut space)?;
     let end = part::least(length, &space);
-    steps(
-        rt,
-        &mut script,
-        path,
-        &mut space[..end],
-        size,
-        count,
-        &mut text,
-    )
+    steps(&disk, &mut script, &mut space[..end], sizes, &mut text)
 }
 
 // The one argument is the path. A second one is longer than no bytes and does not fit in them.

@@ -41,6 +41,7 @@ fn block(cycle: u8, length: u16, id: u32, body: [u8; SMALL]) -> [u8; Geometry::B
     block
 }
 
+#[tactic(auto, unfolding(rules::specs::Entry::lead_block))]
 pub fn lead(cycle: u8) -> [u8; Geometry::BLOCK_SIZE]
     ensures { result ≡ rule.lead_block cycle }
 {
@@ -52,6 +53,7 @@ pub fn lead(cycle: u8) -> [u8; Geometry::BLOCK_SIZE]
     )
 }
 
+#[tactic(auto, unfolding(rules::specs::Entry::close_block, rules::specs::Notation::erased))]
 pub fn close(cycle: u8) -> [u8; Geometry::BLOCK_SIZE]
     ensures { result ≡ rule.close_block cycle }
 {
@@ -59,12 +61,14 @@ pub fn close(cycle: u8) -> [u8; Geometry::BLOCK_SIZE]
 }
 
 // The same bytes as close; the place makes it a done.
+#[tactic(auto, unfolding(rules::specs::Entry::done_block))]
 pub fn done(cycle: u8) -> [u8; Geometry::BLOCK_SIZE]
     ensures { result ≡ rule.done_block cycle }
 {
     close(cycle)
 }
 
+#[tactic(auto, unfolding(rules::specs::Entry::deletion_block, rules::specs::Notation::erased))]
 pub fn deletion(cycle: u8, id: u32) -> [u8; Geometry::BLOCK_SIZE]
     ensures { result ≡ rule.deletion_block cycle id }
 {
@@ -72,6 +76,7 @@ pub fn deletion(cycle: u8, id: u32) -> [u8; Geometry::BLOCK_SIZE]
 }
 
 // A value of 1 to 8 bytes.
+#[tactic(auto, unfolding(rules::specs::Entry::small_value_block))]
 pub fn small_value(cycle: u8, id: u32, value: &[u8]) -> [u8; Geometry::BLOCK_SIZE]
     requires { length value.now ≤ 8 }
     ensures { result ≡ rule.small_value_block cycle id value.now }
@@ -80,6 +85,7 @@ pub fn small_value(cycle: u8, id: u32, value: &[u8]) -> [u8; Geometry::BLOCK_SIZ
 }
 
 // A value of more than 8 bytes, which lie at the offset in the sector.
+#[tactic(auto, unfolding(rules::specs::Entry::long_value_block))]
 pub fn long_value(
     cycle: u8,
     id: u32,

@@ -3,23 +3,25 @@
 use Rattle.std.specs.Prelude.{Some, None, Ok, Err, is_ok, option_map}
 use Rattle.std.proofs.lemmas.Option.{none-some, same_Some}
 use mathlib.Core.Path.{◌≡◌, refl, sym, ap, ◌∙◌}
-use mathlib.Core.Bool.{false, false≢true}
+use mathlib.Core.Bool.{Bool, true, false, false≢true}
 use mathlib.Core.List.{List}
 use mathlib.Core.Option.{Option, none, some}
-use Prim.Native.Nat.{ℕ, ◌-◌, ◌<◌, ◌^◌}
+use Prim.Native.Nat.{ℕ, ◌-◌, ◌<◌, ◌≤◌, ◌^◌}
 use native.Mathlib.Omega.{arith}
 use lib.ListN.{length, take, drop}
 use Rattle.rules.specs.Ground.{block_size}
 use Rattle.rules.specs.Look as rule
 use Rattle.rules.specs.Look.{data_blocks, is_entry}
 use Rattle.rules.proofs.Basics.Lists.{part_to_end}
-use Rattle.rules.proofs.Format.Look.{data-blocks-le}
+use Rattle.rules.proofs.Format.Look.{need-blocks}
+use lib.Dec.{leb}
+use Rattle.std.proofs.lemmas.Bool.{leb-true, leb-false}
 use Rattle.layout.specs.Options.{option_as}
 use Rattle.entry.specs.declared.Scan.{Scan}
 use Rattle.entry.specs.declared.Head.{Head}
 use Rattle.entry.specs.declared.Head.TheVariants.{Done, Deletion, Value}
 use Rattle.entry.specs.declared.NoEntry.{NoEntry}
-use Rattle.entry.specs.Answer.{head_of, head_as, scan_of, scan_as, length_of, reason_of, verdict_as}
+use Rattle.entry.specs.Answer.{head_of, head_as, scan_of, scan_as, reason_of, verdict_as}
 
 -- ---- heads and forms
 
@@ -95,11 +97,13 @@ err-reason before rule.over_limit e = refl
 
 -- ---- bounds
 
--- a value's length fits two bytes, so its data blocks are few
-pub few-data : (head : Head) {id len : ℕ} → head ≡ Value id len → length_of head < 2 ^ 16 → data_blocks len < 2 ^ 16
-few-data head {id} {len} told short =
-    let same : length_of head ≡ len = ap length_of told in
-    omega (arith, data-blocks-le len)
+-- a length of two bytes takes few data blocks
+pub few-data : (len : ℕ) → len < 2 ^ 16 → data_blocks len ≤ 4096
+few-data len short = go (leb len 8) refl
+  where
+    go : (t : Bool) → leb len 8 ≡ t → data_blocks len ≤ 4096
+    go true e = rw ((need-blocks len).1 (leb-true len 8 e)) (omega arith)
+    go false e = rw ((need-blocks len).0 (leb-false len 8 e)) (omega arith)
 
 -- ---- a part of a block
 

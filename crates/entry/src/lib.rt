@@ -6,6 +6,9 @@ ghost use Rattle.rules.specs.Ground.{reserved_id};
 use layout::Geometry;
 
 pub mod look;
+mod new_entry;
+
+pub use new_entry::NewEntry;
 
 // The byte of an erased block.
 pub const ERASED: u8 = 255;
@@ -20,11 +23,12 @@ pub const LEAD_LENGTH: u16 = 0xFFFF;
 pub const LEAD_MARK: u32 = 0x00004201;
 
 // What the entries before a block in its sector come to: their needs, their data blocks, and whether one is a done.
-// (That its numbers are Small stands in clauses: in the type, no clause could write a scan of the rules as a Scan.)
+// (That its numbers are Small stands in clauses: in the type, no clause could write a scan of the rules as a Scan. So
+// does that an entry is within the limits: a type of a scan and a head would be taken apart at each append.)
 #[derive(Clone, Copy)]
 pub struct Scan {
     pub needs: usize,
-    pub data_end: usize,
+    pub data_end: u16,
     pub done: bool,
 }
 
@@ -33,7 +37,7 @@ pub struct Scan {
 pub enum Head {
     Done,
     Deletion(u32),
-    Value(u32, usize),
+    Value(u32, u16),
 }
 
 // Why a block is no entry: the first reason that applies.
@@ -46,7 +50,7 @@ pub enum NoEntry {
     OverLimit,
 }
 
-// The ID of a value.
+// The ID of a value. (`number` is no `From`, as with a Sector.)
 #[derive(Clone, Copy)]
 pub struct Id {
     number: u32,

@@ -1,11 +1,11 @@
 // Says what a block is, where it lies: a lead, a close, an entry, or why it is no entry.
-ghost use Rattle.std.specs.Prelude.{◌≡◌, ◌≤◌, ◌<◌, ◌^◌, IfSome, option_map};
+ghost use Rattle.std.specs.Prelude.{◌≡◌, ◌≤◌, option_map};
 ghost use Rattle.rules.specs.Notation as notation;
 ghost use Rattle.rules.specs.Entry as fields;
 ghost use Rattle.rules.specs.Look as rule;
 ghost use Rattle.layout.specs.Geometry.{blocks_of};
 ghost use Rattle.layout.specs.Options.{option_as};
-ghost use Rattle.entry.specs.Answer.{scan_of, scan_as, head_of, head_as, length_of, limit_of, Small, verdict_as};
+ghost use Rattle.entry.specs.Answer.{scan_of, scan_as, head_of, head_as, limit_of, Small, verdict_as};
 
 use crate::{ERASED, Head, LEAD_LENGTH, LEAD_MARK, NoEntry, SMALL, Scan};
 use layout::Geometry;
@@ -22,6 +22,7 @@ pub const BODY_AT: usize = 8;
 pub const SECOND_AT: usize = 12;
 
 // The cycle in a block. That of a lead is its sector's.
+#[tactic(auto, unfolding(rules::specs::Entry::cycle_of))]
 pub fn cycle_in(block: &[u8; Geometry::BLOCK_SIZE]) -> u8
     ensures { result ≡ fields.cycle_of block.now }
 {
@@ -29,6 +30,7 @@ pub fn cycle_in(block: &[u8; Geometry::BLOCK_SIZE]) -> u8
 }
 
 // The ID in an entry's block.
+#[tactic(auto, unfolding(rules::specs::Entry::id_of))]
 pub fn id_in(block: &[u8; Geometry::BLOCK_SIZE]) -> u32
     ensures { result ≡ fields.id_of block.now }
 {
@@ -36,6 +38,7 @@ pub fn id_in(block: &[u8; Geometry::BLOCK_SIZE]) -> u32
 }
 
 // The length of its value.
+#[tactic(auto, unfolding(rules::specs::Entry::length_of))]
 pub fn length_in(block: &[u8; Geometry::BLOCK_SIZE]) -> u16
     ensures { result ≡ fields.length_of block.now }
 {
@@ -43,6 +46,7 @@ pub fn length_in(block: &[u8; Geometry::BLOCK_SIZE]) -> u16
 }
 
 // The offset of the data of a long value.
+#[tactic(auto, unfolding(rules::specs::Entry::offset_of))]
 pub fn offset_in(block: &[u8; Geometry::BLOCK_SIZE]) -> u32
     ensures { result ≡ fields.offset_of block.now }
 {
@@ -50,6 +54,7 @@ pub fn offset_in(block: &[u8; Geometry::BLOCK_SIZE]) -> u32
 }
 
 // The CRC-32 of a long value.
+#[tactic(auto, unfolding(rules::specs::Entry::crc32_of))]
 pub fn crc32_in(block: &[u8; Geometry::BLOCK_SIZE]) -> u32
     ensures { result ≡ fields.crc32_of block.now }
 {
@@ -84,30 +89,30 @@ pub fn data_blocks(length: usize) -> usize
 impl Head {
     // The blocks that an entry takes of its sector's room: none for a done.
     pub fn need(self) -> usize
-        requires { length_of self < 2 ^ 16 }
         ensures { result ≡ rule.need_of (head_of self) }
     {
         match self {
             Head::Done => 0,
             Head::Deletion(_) => 1,
-            Head::Value(_, length) => 1 + data_blocks(length),
+            Head::Value(_, length) => 1 + data_blocks(length as usize),
         }
     }
 
     // The most that the needs of a sector may be with a value, or with a deletion, among them.
+    #[tactic(auto, unfolding(crate::specs::Answer::limit_of))]
     pub fn limit(self, g: Geometry) -> usize
         ensures { result ≡ limit_of (blocks_of g) (head_of self) }
     {
         match self {
             Head::Value(_, _) => g.value_limit(),
-            Head::Deletion(_) => g.deletion_limit(),
-            Head::Done => g.deletion_limit(),
+            Head::Deletion(_) | Head::Done => g.deletion_limit(),
         }
     }
 }
 
 impl Scan {
     // Before the first entry of a sector.
+    #[tactic(auto, unfolding(rules::specs::Look::start))]
     pub fn start() -> Scan
         ensures { result ≡ scan_as rule.start }
     {
@@ -120,27 +125,21 @@ impl Scan {
 
     // After one more entry.
     pub fn after(self, head: Head) -> Scan
-        requires small { Small self }
-        requires length_fits { length_of head < 2 ^ 16 }
+        requires { Small self }
         ensures { result ≡ scan_as (rule.after (scan_of self) (head_of head)) }
     {
         match head {
-            Head::Done => Scan {
-                needs: self.needs,
-                data_end: self.data_end,
-                done: true,
-            },
+            Head::Done => Scan { done: true, ..self },
             Head::Deletion(_) => Scan {
                 needs: self.needs + 1,
-                data_end: self.data_end,
-                done: self.done,
+                ..self
             },
             Head::Value(_, length) => {
-                let data = data_blocks(length);
+                let data = data_blocks(length as usize);
                 Scan {
                     needs: self.needs + (1 + data),
-                    data_end: self.data_end + data,
-                    done: self.done,
+                    data_end: self.data_end + data as u16,
+                    ..self
                 }
             }
         }
@@ -148,35 +147,34 @@ impl Scan {
 
     // Does the entry still count in its sector?
     pub fn admits(self, g: Geometry, head: Head) -> bool
-        requires small { Small self }
-        requires length_fits { length_of head < 2 ^ 16 }
+        requires { Small self }
         ensures { result ≡ rule.is_within (blocks_of g) (scan_of self) (head_of head) }
     {
         match head {
             Head::Done => !self.done,
             Head::Deletion(_) => self.needs + 1 <= g.deletion_limit(),
-            Head::Value(_, length) => self.needs + (1 + data_blocks(length)) <= g.value_limit(),
+            Head::Value(_, length) => self.needs + (1 + data_blocks(length as usize))
+                <= g.value_limit(),
         }
     }
 }
 
 // The kind of an entry by its fields, the cycle and byte 0 being right.
-fn head_of(block: &[u8; Geometry::BLOCK_SIZE], data_end: usize) -> Option<Head>
-    requires data_end_bound { data_end ≤ 4096 }
-    ensures form { result ≡ option_map head_as (option_as (rule.head_of data_end block.now)) }
-    ensures length_fits { IfSome result (λ head. length_of head < 2 ^ 16) }
+fn head_of(block: &[u8; Geometry::BLOCK_SIZE], data_end: u16) -> Option<Head>
+    ensures { result ≡ option_map head_as (option_as (rule.head_of data_end block.now)) }
 {
-    let id = layout::le32(block, ID_AT);
-    let length = layout::le16(block, LENGTH_AT) as usize;
+    let id = id_in(block);
+    let told = length_in(block);
+    let length = told as usize;
     if id == Geometry::RESERVED_ID {
         (length == 0 && is_erased(&block[BODY_AT..])).then_some(Head::Done)
     } else if length == 0 {
         is_erased(&block[BODY_AT..]).then_some(Head::Deletion(id))
     } else if length <= SMALL {
-        is_erased(&block[BODY_AT + length..]).then_some(Head::Value(id, length))
+        is_erased(&block[BODY_AT + length..]).then_some(Head::Value(id, told))
     } else {
-        let offset = layout::le32(block, BODY_AT) as usize;
-        (offset == data_end * Geometry::BLOCK_SIZE).then_some(Head::Value(id, length))
+        let offset = offset_in(block) as usize;
+        (offset == data_end as usize * Geometry::BLOCK_SIZE).then_some(Head::Value(id, told))
     }
 }
 
@@ -194,7 +192,7 @@ pub fn block(
     if is_erased(block) {
         return Err(NoEntry::Blank);
     }
-    if block[CYCLE_AT] != cycle {
+    if cycle_in(block) != cycle {
         return Err(NoEntry::OtherCycle);
     }
     if !is_checked(block) {
@@ -214,35 +212,35 @@ pub fn lead(block: &[u8; Geometry::BLOCK_SIZE]) -> Option<u8>
     if !is_checked(block) {
         return None;
     }
-    if layout::le32(block, ID_AT) != Geometry::RESERVED_ID {
+    if id_in(block) != Geometry::RESERVED_ID {
         return None;
     }
-    if layout::le16(block, LENGTH_AT) != LEAD_LENGTH {
+    if length_in(block) != LEAD_LENGTH {
         return None;
     }
-    if layout::le32(block, BODY_AT) != 0 {
+    if offset_in(block) != 0 {
         return None;
     }
-    if layout::le32(block, SECOND_AT) != LEAD_MARK {
+    if crc32_in(block) != LEAD_MARK {
         return None;
     }
-    Some(block[CYCLE_AT])
+    Some(cycle_in(block))
 }
 
 // Is block B-2 of a sector of this cycle its close?
 pub fn is_close(block: &[u8; Geometry::BLOCK_SIZE], cycle: u8) -> bool
     ensures { result ≡ rule.is_close cycle block.now }
 {
-    if block[CYCLE_AT] != cycle {
+    if cycle_in(block) != cycle {
         return false;
     }
     if !is_checked(block) {
         return false;
     }
-    if layout::le32(block, ID_AT) != Geometry::RESERVED_ID {
+    if id_in(block) != Geometry::RESERVED_ID {
         return false;
     }
-    if layout::le16(block, LENGTH_AT) != 0 {
+    if length_in(block) != 0 {
         return false;
     }
     is_erased(&block[BODY_AT..])

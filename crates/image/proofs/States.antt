@@ -1,11 +1,12 @@
 -- The state by the classes: no working sector, or one, and the unfinished ones; and by whether the spare is unused.
 -- Assumes nothing.
 use mathlib.Core.Path.{◌≡◌, refl, sym}
-use mathlib.Core.Bool.{true, false, and-false, false≢true}
+use mathlib.Core.Bool.{Bool, true, false, and-false, false≢true}
 use mathlib.Core.List.{List, [], ◌∷◌}
 use Prim.Native.Nat.{ℕ}
 use lib.ListN.{length}
-use Rattle.std.specs.Prelude.{Some, None}
+use Rattle.std.specs.Prelude.{None}
+use Rattle.std.specs.Bool.{then_some}
 use borrow.Author.Tests.{eq-eqb, ne_eqb}
 use Rattle.rules.specs.Notation.{is_empty}
 use Rattle.rules.specs.Reading.{View}
@@ -29,10 +30,9 @@ module _ (views : List View) (w u : ℕ) {us : List ℕ} (one : us ≡ u ∷ [])
   unfolding state_by
   not-next other = rw (one, ne_eqb u (next (length views) w) other, when_false)
 
-  pub spare-used : is_empty (view_at views u).entries ≡ false → None ≡ status_as (state_by views (w ∷ []) us)
+  -- the next sector: the store is at rest if it is unused
+  pub spare-decides : u ≡ next (length views) w → (unused : Bool) → unused ≡ is_empty (view_at views u).entries
+      → then_some unused (Rest (sector_at w)) ≡ status_as (state_by views (w ∷ []) us)
   unfolding state_by
-  spare-used used = rw (one, used, and-false, when_false)
-
-  pub spare-unused : u ≡ next (length views) w → is_empty (view_at views u).entries ≡ true → Some (Rest (sector_at w)) ≡ status_as (state_by views (w ∷ []) us)
-  unfolding state_by
-  spare-unused follows unused = rw (one, eq-eqb u (next (length views) w) follows, unused, when_true)
+  spare-decides follows true e = rw (one, eq-eqb u (next (length views) w) follows, sym e, when_true)
+  spare-decides follows false e = rw (one, sym e, and-false, when_false)

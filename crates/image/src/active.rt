@@ -8,7 +8,9 @@ ghost use Rattle.image.specs.Answer.{views, active_as};
 use entry::Scan;
 use layout::{Image, Sector};
 
-// Its number, its cycle, how many entries it has, and what they come to.
+// Its number, its cycle, how many entries it has, and what they come to. (That the image shows this of the sector, that
+// it has no entries yet, or that it is the working one at rest, stands in clauses: it is carried while the image is
+// stored to, which a type could not lend.)
 #[derive(Clone, Copy)]
 pub struct Active {
     pub sector: Sector,

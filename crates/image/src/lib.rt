@@ -1,7 +1,5 @@
 #![tactic(auto)]
-// What an image means: the state that its sectors make together, and what is carried of the one that is written. That a
-// sector is one of the image stands in the contracts: a type for it would carry the image beside each sector number
-// that is noted, carried or handed out, and be no plainer.
+// What an image means: the state that its sectors make together, and what is carried of the one that is written.
 pub mod active;
 pub mod entries;
 pub mod ring;

@@ -52,13 +52,10 @@ fn state_with(image: &Image, w: Sector, unfinished: Mask) -> Option<Status>
         return None;
     }
     let spare = ring::next_sector(image.geometry, w);
-    if unfinished.which().number() != spare.number() {
+    if unfinished.which() != spare {
         return None;
     }
-    if sector::is_unused(&image.sector(spare)) {
-        return Some(Status::Rest(w));
-    }
-    None
+    sector::is_unused(&image.sector(spare)).then_some(Status::Rest(w))
 }
 
 // The state by the classes: "exactly one bit, and which, decides".

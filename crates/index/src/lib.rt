@@ -17,7 +17,7 @@ pub const BUCKETS: usize = 4096;
 pub const LINKS: usize = 4096;
 
 // The index of the first `count` entries of a sector of an image. There is no heap for a map, so its tables are fixed;
-// their 16 KiB are lent, never copied.
+// their 16 KiB are lent once it is made. (That it has all entries stands in clauses: it grows, one by one.)
 #[derive(Drop)]
 pub struct Index<'a> {
     pub image: Image<'a>,

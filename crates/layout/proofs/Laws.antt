@@ -1,20 +1,30 @@
 -- What a geometry gives its callers: legal sizes back an image of their length, and a store keeps it so.
 -- Assumes nothing.
 use Rattle.std.specs.Prelude.{Some, None}
+use Rattle.std.proofs.lemmas.Bool.{eqb-true, eq-eqb, not-false, not-true, true≢false}
 use Rattle.std.proofs.lemmas.Option.{cond_some, none-some}
 use mathlib.Core.Path.{◌≡◌, sym, ap, ◌∙◌}
-use mathlib.Core.Bool.{true, false}
+use mathlib.Core.Bool.{true, false, not}
 use mathlib.Core.List.{List}
 use Prim.Native.Nat.{ℕ, ◌+◌, ◌*◌, ◌/◌, ◌<◌}
 use native.Mathlib.Nat.{mul-le-mul}
 use native.Mathlib.Omega.{arith}
 use lib.ListN.{length}
+use Rattle.std.specs.Prelude.{eqb}
 use Rattle.rules.specs.Ground.{block_size, legal_sizes, image_of, block_at, place_of, store_bytes}
 use Rattle.rules.proofs.Basics.Notation.{took-else}
 use Rattle.rules.proofs.Format.Ground.{IsLegal, legal-true, legal-false, legal-bounds, length-store-bytes, read-block, length-block-bytes}
+use Rattle.layout.specs.declared.Sector.{Sector}
 use Rattle.layout.specs.declared.Geometry.{Geometry}
-use Rattle.layout.specs.Sizes.{Sound}
+use Rattle.layout.specs.Numbers.{sector_no}
 use Rattle.layout.specs.Geometry.{blocks_of, sectors_of, sizes_in, sizes_of, Backs}
+
+-- what `!=` of two sectors tells of their numbers
+pub same-sector : (s t : Sector) → not (eqb (sector_no s) (sector_no t)) ≡ false → sector_no s ≡ sector_no t
+same-sector s t e = eqb-true _ _ (not-false _ e)
+
+pub other-sector : (s t : Sector) → not (eqb (sector_no s) (sector_no t)) ≡ true → sector_no s ≡ sector_no t → ⊥
+other-sector s t e same = true≢false (sym (eq-eqb _ _ same) ∙ not-true _ e)
 
 -- a geometry has few blocks, so that no place wraps
 pub few-blocks : (g : Geometry) (s b : ℕ) → s < sectors_of g → b < blocks_of g → s * blocks_of g + b < 262144
@@ -42,12 +52,6 @@ sizes-legal size count len l = rw (legal-true size count len l)
 pub sizes-illegal : (size count len : ℕ) → (IsLegal size count len → ⊥) → None ≡ sizes_of size count len
 unfolding sizes_of
 sizes-illegal size count len n = rw (legal-false size count len n)
-
--- legal sizes are sound
-pub legal-sound : (size count len : ℕ) → IsLegal size count len → Sound (size / block_size) count
-legal-sound size count len legal =
-    let l = legal-bounds size count len (legal-true size count len legal) in
-    record { blocks_from = l.blocks_from; blocks_to = l.blocks_to; sectors_from = l.sectors_from; sectors_to = l.sectors_to }
 
 -- ---- the facts by the answer
 

@@ -11,11 +11,14 @@ mod storing;
 pub use image::{Image, SectorBytes};
 pub use storing::store_block;
 
-// Sector, Block and Place differ so that none stands in for another: one type over a marker would be no plainer, and
-// `From` in place of `new` and `number` neither, as each would want its clause again.
+// Sector, Block and Place differ so that none stands in for another. One type over a marker would be no plainer: each
+// use would name the marker. Nor would `From` in place of `new` and `number`: an `into()` makes of any number what is
+// asked. That a number is below the count of a store stands in clauses: a type for it would carry the sizes beside each
+// number that is noted or handed out. A sector and a block go side by side: what goes through a sector's blocks would
+// take a pair apart at each step.
 
 // A sector number, 0 to S-1.
-#[derive(Clone, Copy)]
+#[derive(Clone, Copy, PartialEq, Eq)]
 pub struct Sector(usize);
 
 // A block number within its sector, 0 to B-1.
@@ -93,7 +96,7 @@ impl Geometry {
     pub const KEPT_FROM_DELETIONS: usize = 4;
 
     // The ID that no value has.
-    pub const RESERVED_ID: u32 = 4294967295;
+    pub const RESERVED_ID: u32 = 0xFFFFFFFF;
 
     // The legal sizes: bytes in a sector, and sectors.
     pub const MIN_SECTOR_SIZE: usize = 128;
@@ -159,7 +162,8 @@ impl Geometry {
     }
 }
 
-// The number in the two bytes at a place of a block, little-endian.
+// The number in the two bytes at a place of a block, little-endian. (This and le32 are one line each: `from_le_bytes`
+// is each type's own, and a trait over both would be longer.)
 pub fn le16(block: &[u8], at: usize) -> u16
     requires { at + 2 ≤ length block.now }
     ensures { result ≡ number_of (take 2 (drop at block.now)) }

@@ -6,7 +6,8 @@ ghost use Rattle.layout.specs.Geometry.{blocks_of, sectors_of, Backs};
 
 use crate::{Block, Geometry, Sector};
 
-// A store: block b of sector s becomes these bytes.
+// A store: block b of sector s becomes these bytes. (Takes the image itself: what stores under a budget is made over
+// it.)
 pub fn store_block(
     image: &mut [u8],
     g: Geometry,

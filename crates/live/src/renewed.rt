@@ -85,11 +85,11 @@ fn renewed_by_newer(counted: &Counted, index: &Index, within: Marks) -> Marks
     ensures { marks_of result ≡ padded max_marks (renewed_flags_in (ignored counted.now) (sector_no index.now.sector) (views index.now.image)) }
 {
     let g = index.image.geometry;
-    let spare = ring::next_sector(g, counted.newest).number();
+    let spare = ring::next_sector(g, counted.newest);
     let mut renewed = within;
     let mut t = ring::next_sector(g, index.sector);
     // A range would be no plainer: the sectors are followed round the ring, and their numbers start over on the way.
-    while t.number() != spare {
+    while t != spare {
         renewed = renewed_by_sector(index, t, counted.counts.at(t), renewed);
         t = ring::next_sector(g, t);
     }

@@ -12,8 +12,9 @@ pub fn passes(check: Option<u32>, bytes: &[u8]) -> bool
     }
 }
 
-// Copies the bytes to the buffer's first places. By a loop, since `copy_from_slice` calls C's `memmove` where both are lent by C, and a C
-// program owes `memcpy` and `memset` alone.
+// Copies the bytes to the buffer's first places. By a loop, since `copy_from_slice` calls C's `memmove` where both are
+// lent by C, and a C program owes `memcpy` and `memset` alone. (By place: with a zip over `iter_mut` the proof would
+// have to follow each lent byte to its end.)
 pub fn copy(bytes: &[u8], buffer: &mut [u8])
     requires { length bytes.now ≤ length buffer.old }
     ensures { buffer.new ≡ bytes.now ++ drop (length bytes.now) buffer.old }

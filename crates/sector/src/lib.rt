@@ -44,7 +44,8 @@ fn cycle_in(sector: &SectorBytes) -> u8
 }
 
 // "entries are taken from block B-3 downward and the reading ends at the first block that isn't an entry". Where it
-// is to go only as far as to a done, a sector that has one is not read further, and gives nothing.
+// is to go only as far as to a done, a sector that has one is not read further, and gives nothing. (A closure in place
+// of the flag would be no plainer: the clause would have to say what it answers of each scan.)
 fn read(sector: &SectorBytes, cycle: u8, to_done: bool) -> Option<Entries>
     ensures { let B = blocks_of sector.now.geometry in result ≡ (if to_done && has_done_among (entries_of B cycle (blocks_in sector.now)) then None else Some (entries_as B cycle (blocks_in sector.now))) }
 {
@@ -54,17 +55,13 @@ fn read(sector: &SectorBytes, cycle: u8, to_done: bool) -> Option<Entries>
     for count in 0..=first {
         let block = sector.block(Block::new(first - count));
         match look::block(block, g, cycle, scan) {
-            Ok((_, next)) => {
-                if to_done && next.done {
-                    return None;
-                }
-                scan = next;
-            }
+            Ok((_, next)) if to_done && next.done => return None,
+            Ok((_, next)) => scan = next,
             Err(ended) => return Some(Entries { count, scan, ended }),
         }
     }
-    // Is never reached: entries and their data never take up all blocks.
-    None
+    // Entries and their data never take up all blocks.
+    unreachable!()
 }
 
 // All of them.
@@ -95,7 +92,10 @@ pub fn class_of(sector: &SectorBytes) -> Option<Class>
     ensures { result ≡ class_as (view_in sector.now) }
 {
     let blocks = sector.geometry.blocks();
-    let cycle = look::lead(sector.block(Block::new(blocks - 1)))?;
+    // Is no `?`: the edit lead_not_needed tries another class in the place of None.
+    let Some(cycle) = look::lead(sector.block(Block::new(blocks - 1))) else {
+        return None;
+    };
     if look::is_close(sector.block(Block::new(blocks - 2)), cycle) {
         return Some(Class::Closed);
     }

@@ -2,19 +2,16 @@
 -- Assumes nothing.
 use mathlib.Core.Path.{◌≡◌, ◌∙◌}
 use mathlib.Core.List.{List}
-use Prim.Native.Nat.{ℕ, ◌+◌, ◌-◌, ◌/◌, ◌<◌, ◌≤◌}
+use Prim.Native.Nat.{ℕ, ◌-◌, ◌^◌, ◌<◌, ◌≤◌}
 use native.Mathlib.Omega.{arith}
-use Rattle.std.specs.Prelude.{Some, None, Err}
-use lib.Dec.{leb}
+use Rattle.std.specs.Prelude.{Some, Err}
 use lib.ListN.{length}
-use borrow.Author.Tests.{leb-true, leb-false}
-use Rattle.rules.specs.Ground.{block_size, reserved_id, kept_from_values}
+use Rattle.rules.specs.Ground.{reserved_id, kept_from_values}
 use Rattle.rules.specs.Look as look
-use Rattle.rules.specs.Look.{data_blocks, need_of}
+use Rattle.rules.specs.Look.{need_of}
 use Rattle.rules.specs.Meaning.{state_of}
 use Rattle.rules.specs.Calls as rule
 use Rattle.rules.specs.Calls.{refuse, write_on, delete_on}
-use Rattle.rules.proofs.Basics.Notation.{by-test}
 use Rattle.rules.proofs.Format.Look.{need-blocks}
 use Rattle.layout.specs.declared.Geometry.{Geometry}
 use Rattle.layout.specs.Geometry.{blocks_of, sectors_of, sizes_in, sizes_of}
@@ -25,22 +22,16 @@ use Rattle.answer.specs.declared.Refusal.{Refusal}
 use Rattle.answer.specs.Answer.{refusal_of}
 use Rattle.at_rest.proofs.Changing.{writing, value_by_state, write-by-state, deleting, deletion_by_state, delete-by-state}
 use Rattle.store.specs.State.{open_as}
-use Rattle.store.proofs.Sizes.{at-illegal, at-legal, not-in-rest}
-
--- the data blocks of a value fit a number
-pub few-blocks : (len : ℕ) → data_blocks len ≤ len
-few-blocks len =
-    by-test (leb len 8)
-    (λ small. let none : data_blocks len ≡ 0 = (need-blocks len).1 (leb-true len 8 small) in omega arith)
-    (λ long. let many : 8 < len = leb-false len 8 long in let blocks : data_blocks len ≡ (len + 15) / block_size = (need-blocks len).0 many in omega arith)
+use Rattle.store.proofs.Sizes.{at-legal, not-in-rest}
 
 -- ---- a write
 
-module _ (size count : ℕ) (bytes : List ℕ) (id : ℕ) (value : List ℕ) where
-  pub write-illegal : None ≡ sizes_of size count (length bytes) → rule.write_due size count bytes id value ≡ refuse rule.geometry
-  unfolding rule.write_due
-  write-illegal e = at-illegal size count bytes refuse (λ B S im. write_on B S im id value) e
+-- what does not fit two bytes fits no sector
+pub longest : (g : Geometry) (id len : ℕ) → 2 ^ 16 ≤ len → blocks_of g - kept_from_values < need_of (look.value id len)
+unfolding need_of
+longest g id len long = omega (arith, g.sound.blocks_to, (need-blocks len).0 (omega arith))
 
+module _ (size count : ℕ) (bytes : List ℕ) (id : ℕ) (value : List ℕ) where
   pub write-legal : (g : Geometry) → Some (sizes_in g) ≡ sizes_of size count (length bytes)
       → rule.write_due size count bytes id value ≡ write_on (blocks_of g) (sectors_of g) (blocks_in g bytes) id value
   unfolding rule.write_due
@@ -56,10 +47,6 @@ write-unready g bytes id value other some_bytes fits e =
 -- ---- a delete
 
 module _ (size count : ℕ) (bytes : List ℕ) (id : ℕ) where
-  pub delete-illegal : None ≡ sizes_of size count (length bytes) → rule.delete_due size count bytes id ≡ refuse rule.geometry
-  unfolding rule.delete_due
-  delete-illegal e = at-illegal size count bytes refuse (λ B S im. delete_on B S im id) e
-
   pub delete-legal : (g : Geometry) → Some (sizes_in g) ≡ sizes_of size count (length bytes)
       → rule.delete_due size count bytes id ≡ delete_on (blocks_of g) (sectors_of g) (blocks_in g bytes) id
   unfolding rule.delete_due

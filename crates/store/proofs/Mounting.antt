@@ -3,7 +3,7 @@
 use mathlib.Core.Path.{◌≡◌, ap, ◌∙◌}
 use mathlib.Core.List.{List}
 use mathlib.Core.Option as rule-option
-use Rattle.std.specs.Prelude.{Some, None, Ok, Err}
+use Rattle.std.specs.Prelude.{Some, Ok, Err}
 use Prim.Native.Nat.{ℕ}
 use native.Mathlib.Omega.{arith}
 use lib.ListN.{length}
@@ -21,7 +21,7 @@ use Rattle.answer.specs.declared.Refusal.{Refusal}
 use Rattle.answer.specs.declared.Refusal.TheVariants as refusal
 use Rattle.answer.specs.Answer.{refusal_of}
 use Rattle.store.specs.State.{begun_as}
-use Rattle.store.proofs.Sizes.{at-illegal, at-legal}
+use Rattle.store.proofs.Sizes.{at-legal}
 
 abbrev mount_by : (B S : ℕ) → Image → State → Due
 mount_by B S im state = make (stores.mount B S state im) (mount_turns state)
@@ -37,21 +37,16 @@ unfolding begun_as in_state
 by-turns B S im rule-option.none {t} e = let z : ◌≡◌ {A = ℕ} 0 1 = cc in absurd (omega arith)
 by-turns B S im (rule-option.some state) {t} e = let same : mount_turns state ≡ t = cc in ap (make (stores.mount B S state im)) same
 
-module _ (size count : ℕ) (bytes : List ℕ) where
-  pub mount-illegal : None ≡ sizes_of size count (length bytes) → rule.mount_due size count bytes ≡ refuse rule.geometry
-  unfolding rule.mount_due
-  mount-illegal e = at-illegal size count bytes refuse rule.mount_on e
+module _ (size count : ℕ) (bytes : List ℕ) (g : Geometry) (legal : Some (sizes_in g) ≡ sizes_of size count (length bytes)) where
+  mount-on : rule.mount_due size count bytes
+      ≡ in_state (state_of (views_in g bytes)) refuse (mount_by (blocks_of g) (sectors_of g) (image_of (blocks_of g) (sectors_of g) bytes))
+  unfolding rule.mount_due rule.mount_on
+  mount-on = at-legal size count bytes refuse rule.mount_on g legal
 
-  module _ (g : Geometry) (legal : Some (sizes_in g) ≡ sizes_of size count (length bytes)) where
-    mount-on : rule.mount_due size count bytes
-        ≡ in_state (state_of (views_in g bytes)) refuse (mount_by (blocks_of g) (sectors_of g) (image_of (blocks_of g) (sectors_of g) bytes))
-    unfolding rule.mount_due rule.mount_on
-    mount-on = at-legal size count bytes refuse rule.mount_on g legal
+  pub mount-none : {r : Refusal} → begun_as (option_as (state_of (views_in g bytes))) ≡ Err r → rule.mount_due size count bytes ≡ refuse (refusal_of r)
+  mount-none e = mount-on ∙ by-none (state_of (views_in g bytes)) _ e
 
-    pub mount-none : {r : Refusal} → begun_as (option_as (state_of (views_in g bytes))) ≡ Err r → rule.mount_due size count bytes ≡ refuse (refusal_of r)
-    mount-none e = mount-on ∙ by-none (state_of (views_in g bytes)) _ e
-
-    pub mount-due : {t : ℕ} → begun_as (option_as (state_of (views_in g bytes))) ≡ Ok t
-        → rule.mount_due size count bytes
-        ≡ make (mount_stores (blocks_of g) (sectors_of g) (state_of (views_in g bytes)) (image_of (blocks_of g) (sectors_of g) bytes)) t
-    mount-due e = mount-on ∙ by-turns (blocks_of g) (sectors_of g) (image_of (blocks_of g) (sectors_of g) bytes) (state_of (views_in g bytes)) e
+  pub mount-due : {t : ℕ} → begun_as (option_as (state_of (views_in g bytes))) ≡ Ok t
+      → rule.mount_due size count bytes
+      ≡ make (mount_stores (blocks_of g) (sectors_of g) (state_of (views_in g bytes)) (image_of (blocks_of g) (sectors_of g) bytes)) t
+  mount-due e = mount-on ∙ by-turns (blocks_of g) (sectors_of g) (image_of (blocks_of g) (sectors_of g) bytes) (state_of (views_in g bytes)) e

@@ -21,14 +21,14 @@ use Rattle.at_rest.proofs.Changing.{in_rest_lem}
 use Rattle.store.specs.State.{open_as}
 use Rattle.store.proofs.Sizes.{at-illegal, at-legal, not-in-rest}
 
-module _ (size count : ℕ) (bytes : List ℕ) (id room : ℕ) where
-  -- a refused read, as it is told, and the buffer
-  pub read-refused : (buffer : List ℕ) {r : Result ℕ Refusal} {e : Refusal} → r ≡ Err e → rule.read size count bytes id room ≡ rule.refused (refusal_of e)
-      → (reply_numbers_of r ≡ reply_numbers (rule.read size count bytes id room)) × (buffer ≡ buffer_after (rule.read size count bytes id room) buffer)
-  unfolding buffer_after
-  read-refused buffer is due =
-      (ap reply_numbers_of is ∙ ap reply_numbers (sym due), ap (λ (x : rule.Reply). buffer_after x buffer) (sym due))
+-- a refused read, as it is told, and the buffer
+pub read-refused : {due : rule.Reply} (buffer : List ℕ) {r : Result ℕ Refusal} {e : Refusal} → r ≡ Err e → due ≡ rule.refused (refusal_of e)
+    → (reply_numbers_of r ≡ reply_numbers due) × (buffer ≡ buffer_after due buffer)
+unfolding buffer_after
+read-refused buffer is same =
+    (ap reply_numbers_of is ∙ ap reply_numbers (sym same), ap (λ (x : rule.Reply). buffer_after x buffer) (sym same))
 
+module _ (size count : ℕ) (bytes : List ℕ) (id room : ℕ) where
   pub read-illegal : None ≡ sizes_of size count (length bytes) → rule.read size count bytes id room ≡ rule.refused rule.geometry
   unfolding rule.read
   read-illegal e = at-illegal size count bytes rule.refused (λ B S im. rule.read_on B S im id room) e

@@ -1,5 +1,6 @@
-#![tactic(auto)]
-// The calls over a lent image. The image is the only state: each call works out afresh what it means.
+#![tactic(auto, using(crate::proofs::Sizes::backs, crate::proofs::Sizes::rest))]
+// The calls over a lent image. The image is the only state: each call works out afresh what it means. Sector size and
+// count stay two parameters: C gives them like that, and README has them.
 ghost use Rattle.std.specs.Prelude.{◌≡◌, length, option_map, MatchResult};
 ghost use Rattle.rules.specs.Ground.{reserved_id};
 ghost use Rattle.rules.specs.Calls as rule;
@@ -10,7 +11,7 @@ ghost use Rattle.store.specs.State.{open_as, begun_as};
 
 use answer::{Outcome, Refusal, Reply};
 use budget::Writer;
-use entry::{Head, Id, look};
+use entry::{Id, NewEntry};
 use image::{Status, survey};
 use layout::{Geometry, Image, Sector};
 
@@ -35,8 +36,7 @@ fn mount_turns(status: Option<Status>) -> Result<u32, Refusal>
     ensures { result ≡ begun_as (option_map status_of status) }
 {
     match status {
-        Some(Status::Rest(_)) => Ok(0),
-        Some(Status::NotReopened(_)) => Ok(0),
+        Some(Status::Rest(_) | Status::NotReopened(_)) => Ok(0),
         Some(Status::MidTurn(_)) => Ok(1),
         None => Err(Refusal::NoStore),
     }
@@ -69,8 +69,7 @@ fn open_sector(status: Option<Status>) -> Result<Sector, Refusal>
 {
     match status.ok_or(Refusal::NoStore)? {
         Status::Rest(w) => Ok(w),
-        Status::NotReopened(_) => Err(Refusal::Unfinished),
-        Status::MidTurn(_) => Err(Refusal::Unfinished),
+        Status::NotReopened(_) | Status::MidTurn(_) => Err(Refusal::Unfinished),
     }
 }
 
@@ -81,20 +80,21 @@ fn user_id(id: u32) -> Result<Id, Refusal>
     Id::new(id).ok_or(Refusal::Reserved)
 }
 
-// Copies the value of an ID into the first bytes of the buffer, and leaves the rest of it. A refused read leaves all of it.
+// Copies the value of an ID into the first bytes of the buffer, and leaves the rest of it. A refused read leaves all of
+// it.
 pub fn read(image: &[u8], sector_size: usize, count: usize, id: u32, buffer: &mut [u8]) -> Reply
     ensures answer { reply_numbers_of result ≡ rule.reply_numbers (rule.read sector_size count image.now id (length buffer.old)) }
     ensures buffer { buffer.new ≡ rule.buffer_after (rule.read sector_size count image.now id (length buffer.old)) buffer.old }
     ensures image { image.exit.now ≡ image.entry.now }
 {
     let g = Geometry::new(sector_size, count, image.len()).ok_or(Refusal::Geometry)?;
-    let id = user_id(id)?;
+    let wanted = user_id(id)?;
     let lent = Image {
         bytes: image,
         geometry: g,
     };
     let w = open_sector(survey::survey(&lent))?;
-    at_rest::read(&lent, w, id, buffer)
+    at_rest::read(&lent, w, wanted, buffer)
 }
 
 // Stores the value of an ID: the least number of turns that make room for it, and then the entry.
@@ -111,12 +111,11 @@ pub fn write(
 {
     let g = Geometry::new(sector_size, count, image.len()).ok_or(Refusal::Geometry)?;
     let id = user_id(id)?;
-    if value.len() == 0 {
+    if value.is_empty() {
         return Err(Refusal::Empty);
     }
-    let head = Head::Value(id.number(), value.len());
-    let need = 1 + look::data_blocks(value.len());
-    if g.value_limit() < need {
+    let entry = NewEntry::value(id, value).ok_or(Refusal::TooLong)?;
+    if g.value_limit() < entry.head.need() {
         return Err(Refusal::TooLong);
     }
     let lent = Image {
@@ -124,7 +123,7 @@ pub fn write(
         geometry: g,
     };
     let w = open_sector(survey::survey(&lent))?;
-    change::make(image, g, w, head, value, allowance)
+    change::make(image, g, w, &entry, allowance)
 }
 
 // Stores that an ID has no value, where it has one.

@@ -21,14 +21,13 @@ const SECOND: u8 = 2;
 const THIRD: u8 = 255;
 
 // The image with block b of sector s stored.
-fn put(image: [u8; IMAGE], s: usize, b: usize, block: [u8; 16]) -> [u8; IMAGE]
+fn put(mut image: [u8; IMAGE], s: usize, b: usize, block: [u8; 16]) -> [u8; IMAGE]
     requires s_bound { s < 3 }
     requires b_bound { b < 8 }
 {
-    let mut stored = image;
     let start = (s * BLOCKS + b) * 16;
-    stored[start..start + 16].copy_from_slice(&block);
-    stored
+    image[start..start + 16].copy_from_slice(&block);
+    image
 }
 
 // The closed sector 0: ID 7 with 3 bytes, and ID 8 with 12, which lie in block 0.
@@ -59,15 +58,13 @@ fn rest() -> [u8; IMAGE] {
 }
 
 // The image with the lowest bit of one byte changed.
-fn damaged(image: [u8; IMAGE], s: usize, b: usize, byte: usize) -> [u8; IMAGE]
+fn damaged(mut image: [u8; IMAGE], s: usize, b: usize, byte: usize) -> [u8; IMAGE]
     requires s_bound { s < 3 }
     requires b_bound { b < 8 }
     requires byte_bound { byte < 16 }
 {
-    let mut changed = image;
-    let at = (s * BLOCKS + b) * 16 + byte;
-    changed[at] = changed[at] ^ 1;
-    changed
+    image[(s * BLOCKS + b) * 16 + byte] ^= 1;
+    image
 }
 
 // As at rest, but with sector 1 closed: none is working.
@@ -94,9 +91,7 @@ fn print_read(
     reply: Reply,
     buffer: [u8; ROOM],
 ) -> io::Result<()> {
-    let told = Numbers::from(reply);
-    let number = told.number;
-    let length = told.length;
+    let Numbers { number, length, .. } = Numbers::from(reply);
     print!(rt; "{name}, ID {id} into {room}: {number} length {length} buffer ")?;
     let mut digits = [0; 2 * ROOM];
     let _ = hex::encode_to_slice(buffer, &mut digits);
@@ -112,10 +107,12 @@ fn print_made(
     made: Result<Outcome, Refusal>,
     image: &[u8],
 ) -> io::Result<()> {
-    let told = Numbers::from(made);
-    let number = told.number;
-    let stores = told.stores;
-    let turns = told.turns;
+    let Numbers {
+        number,
+        stores,
+        turns,
+        ..
+    } = Numbers::from(made);
     print!(rt; "{name}, allowance {allowance}: {number} stores {stores} turns {turns} last ")?;
     match made.ok().and_then(|outcome| outcome.last) {
         Some(store) => print!(rt; "{store}")?,
@@ -126,27 +123,20 @@ fn print_made(
 
 // ---- reads
 
-// A read of so many sectors of a size into the first bytes of the buffer.
-fn read_of(
-    rt: &impl Print,
-    name: &str,
-    image: [u8; IMAGE],
-    size: usize,
-    count: usize,
-    id: u32,
-    room: usize,
-) -> io::Result<()>
-    requires { room ≤ 16 }
-{
-    let mut buffer = [0xEE; ROOM];
-    let reply = store::read(&image, size, count, id, &mut buffer[..room]);
-    print_read(rt, name, id, room, reply, buffer)
-}
-
+// A read into the first bytes of the buffer.
 fn read(rt: &impl Print, name: &str, image: [u8; IMAGE], id: u32, room: usize) -> io::Result<()>
     requires { room ≤ 16 }
 {
-    read_of(rt, name, image, 128, 3, id, room)
+    let mut buffer = [0xEE; ROOM];
+    let reply = store::read(&image, 128, 3, id, &mut buffer[..room]);
+    print_read(rt, name, id, room, reply, buffer)
+}
+
+// A read of the image at rest as so many sectors of a size.
+fn read_as(rt: &impl Print, name: &str, size: usize, count: usize, id: u32) -> io::Result<()> {
+    let mut buffer = [0xEE; ROOM];
+    let reply = store::read(&rest(), size, count, id, &mut buffer);
+    print_read(rt, name, id, ROOM, reply, buffer)
 }
 
 // The newest value, one of more than 8 bytes, buffers that just fit or are too short, an ID without a value.
@@ -162,7 +152,8 @@ fn of_rest(rt: &impl Print) -> io::Result<()> {
     read(rt, "rest", image, Geometry::RESERVED_ID, 16)
 }
 
-// A deletion hides the older value; what is no entry ends the reading of its sector; wrong data is told after a short buffer.
+// A deletion hides the older value; what is no entry ends the reading of its sector; wrong data is told after a short
+// buffer.
 fn of_changed(rt: &impl Print) -> io::Result<()> {
     let deleted = put(rest(), 1, 3, encode::deletion(SECOND, 8));
     read(rt, "deleted", deleted, 8, 16)?;
@@ -192,20 +183,11 @@ fn of_states(rt: &impl Print) -> io::Result<()> {
 
 // Sizes that are not those of the image, or of none.
 fn of_sizes(rt: &impl Print) -> io::Result<()> {
-    let image = rest();
-    read_of(rt, "2 sectors of 128", image, 128, 2, 7, 16)?;
-    read_of(rt, "2 sectors of 192", image, 192, 2, 7, 16)?;
-    read_of(rt, "1 sector of 384", image, 384, 1, 7, 16)?;
-    read_of(rt, "4 sectors of 96", image, 96, 4, 7, 16)?;
-    read_of(
-        rt,
-        "2 sectors of 128",
-        image,
-        128,
-        2,
-        Geometry::RESERVED_ID,
-        16,
-    )
+    read_as(rt, "2 sectors of 128", 128, 2, 7)?;
+    read_as(rt, "2 sectors of 192", 192, 2, 7)?;
+    read_as(rt, "1 sector of 384", 384, 1, 7)?;
+    read_as(rt, "4 sectors of 96", 96, 4, 7)?;
+    read_as(rt, "2 sectors of 128", 128, 2, Geometry::RESERVED_ID)
 }
 
 fn of_reads(rt: &impl Print) -> io::Result<()> {
@@ -217,7 +199,8 @@ fn of_reads(rt: &impl Print) -> io::Result<()> {
 
 // ---- formats and mounts
 
-// Mid-turn, with blocks in sector 2 that would read under its next cycle: a close, a done, and behind the copy a deletion.
+// Mid-turn, with blocks in sector 2 that would read under its next cycle: a close, a done, and behind the copy a
+// deletion.
 fn stale() -> [u8; IMAGE] {
     let image = put(mid_turn(), 2, 6, encode::close(0));
     let image = put(image, 2, 5, encode::done(0));
@@ -225,15 +208,19 @@ fn stale() -> [u8; IMAGE] {
 }
 
 // The largest allowance.
-const ENOUGH: u32 = 4294967295;
+const ENOUGH: u32 = u32::MAX;
 
 // A mount with an allowance, and then one that may make all its stores.
-fn mount_twice(rt: &impl Print, name: &str, image: [u8; IMAGE], allowance: u32) -> io::Result<()> {
-    let mut mounted = image;
-    let first = store::mount(&mut mounted, 128, 3, allowance);
-    print_made(rt, name, allowance, first, &mounted)?;
-    let second = store::mount(&mut mounted, 128, 3, ENOUGH);
-    print_made(rt, "  then", ENOUGH, second, &mounted)
+fn mount_twice(
+    rt: &impl Print,
+    name: &str,
+    mut image: [u8; IMAGE],
+    allowance: u32,
+) -> io::Result<()> {
+    let first = store::mount(&mut image, 128, 3, allowance);
+    print_made(rt, name, allowance, first, &image)?;
+    let second = store::mount(&mut image, 128, 3, ENOUGH);
+    print_made(rt, "  then", ENOUGH, second, &image)
 }
 
 // Every allowance up to the stores due.

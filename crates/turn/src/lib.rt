@@ -21,7 +21,7 @@ ghost use Rattle.budget.specs.Budget.{held, shown, Did};
 ghost use Rattle.turn.specs.Turn.{Gathered, Turned};
 
 use budget::{Cut, Writer, close, reopen};
-use entry::Head;
+use entry::NewEntry;
 use image::active::Active;
 use image::{active, ring};
 use layout::{Image, Sector};
@@ -62,7 +62,7 @@ fn end_turn(writer: &mut Writer, active: Active) -> Result<Active, Cut>
     ensures { Turned (sector_no active.sector) writer.old ((stores.append (blocks_of writer.old.geometry) (sector_no active.sector) stores.done_entry and_then stores.reopen (blocks_of writer.old.geometry) (next (sectors_of writer.old.geometry) (sector_no active.sector))) (held writer.old)) writer.new result }
 {
     let oldest = ring::next_sector(writer.geometry, active.sector);
-    let working = append::append(writer, active, Head::Done, b"")?;
+    let working = append::append(writer, active, &NewEntry::done())?;
     reopen::reopen(writer, oldest)?;
     Ok(working)
 }

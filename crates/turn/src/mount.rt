@@ -32,8 +32,7 @@ pub fn mount(writer: &mut Writer, status: Option<Status>) -> Result<(), Cut>
     ensures { Did writer.old (mount_stores (blocks_of writer.old.geometry) (sectors_of writer.old.geometry) (state_of (shown writer.old)) (held writer.old)) writer.new result }
 {
     match status {
-        None => Ok(()),
-        Some(Status::Rest(_)) => Ok(()),
+        None | Some(Status::Rest(_)) => Ok(()),
         Some(Status::NotReopened(w)) => reopen::reopen(
             writer,
             ring::next_sector(writer.geometry, w),

@@ -20,10 +20,10 @@ pub returns-in_err-put-clause-did : goal.returns-in_err-put-clause-did
 unfolding entry_stores
 returns-in_err-put-clause-did c =
     did-as c.from_residual-in_err-put.ensures.0
-    (did_then (rw c.with_entry-next.ensures at c.in_ok-look_ahead.ensures) (rw (ap block_no c.new-b.ensures, c.blocks-2.ensures, c.kind.ensures) at c.in_err-put.ensures))
+    (did_then (rw c.with_entry-next.ensures at c.in_ok-look_ahead.ensures) (rw (ap block_no c.new-b.ensures, c.blocks-2.ensures, c.from.ensures) at c.in_err-put.ensures))
 
 pub returns-clause-did : goal.returns-clause-did
 unfolding entry_stores
 returns-clause-did c =
     did-as refl
-    (did_then (rw c.with_entry-next.ensures at c.in_ok-look_ahead.ensures) (rw (ap block_no c.new-b.ensures, c.blocks-2.ensures, c.kind.ensures) at c.in_ok-put.ensures))
+    (did_then (rw c.with_entry-next.ensures at c.in_ok-look_ahead.ensures) (rw (ap block_no c.new-b.ensures, c.blocks-2.ensures, c.from.ensures) at c.in_ok-put.ensures))

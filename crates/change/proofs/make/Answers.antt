@@ -24,10 +24,10 @@ use Rattle.image.proofs.Laws.{rest-inside, carries-at, scan-bounded}
 use Rattle.live.proofs.FitLaws.{fits-open}
 use Rattle.budget.specs.Budget.{Did}
 use Rattle.budget.proofs.Laws.{did-as}
-use Rattle.append.specs.Append.{entry_for}
+use Rattle.append.specs.Append.{entry_of}
 use Rattle.append.proofs.Appending.{blocks_in, entry-head}
 use Rattle.answer.proofs.Leaving.{left-within, leaves-made, leaves-same, own-size}
-use Rattle.change.proofs.Room.{within-fits, changes-short, active-needs}
+use Rattle.change.proofs.Room.{within-fits, active-needs}
 use Rattle.std.proofs.lemmas.Grind.{common_steps}
 use Rattle.change.proofs.make.Goals as goal
 use Rattle.change.proofs.make.Goals.{After-admits, After-map-made, After-read-active, Start}
@@ -63,14 +63,14 @@ module _ (c : After-admits) where
 
   -- the entry alone is due, where it fits
   due-now : c.admits.result ≡ true
-      → change_on (blocks_of c.args.g) (sectors_of c.args.g) (sector_no c.args.w) (limit_of (blocks_of c.args.g) (head_of c.args.head)) (entry_for c.args.head c.args.value.now) (blocks_in c.args.g c.args.image.now)
-      ≡ calls.make (append (blocks_of c.args.g) (sector_no c.args.w) (entry_for c.args.head c.args.value.now) (blocks_in c.args.g c.args.image.now)) 0
+      → change_on (blocks_of c.args.g) (sectors_of c.args.g) (sector_no c.args.w) (limit_of (blocks_of c.args.g) (head_of c.args.entry.now.head)) (entry_of c.args.entry.now) (blocks_in c.args.g c.args.image.now)
+      ≡ calls.make (append (blocks_of c.args.g) (sector_no c.args.w) (entry_of c.args.entry.now) (blocks_in c.args.g c.args.image.now)) 0
   due-now fits =
       let w : ℕ = sector_no c.args.w in
-      let e : Entry = entry_for c.args.head c.args.value.now in
-      let limit : ℕ = limit_of (blocks_of c.args.g) (head_of c.args.head) in
-      let same = ap need_of (entry-head c.args.head c.args.value.now c.requires.changes.sized) in
-      let room = within-fits (blocks_of c.args.g) (scan_of c.read-active.result.scan) (head_of c.args.head) c.requires.changes.plain (sym c.admits.ensures ∙ fits) in
+      let e : Entry = entry_of c.args.entry.now in
+      let limit : ℕ = limit_of (blocks_of c.args.g) (head_of c.args.entry.now.head) in
+      let same = ap need_of (entry-head c.args.entry.now) in
+      let room = within-fits (blocks_of c.args.g) (scan_of c.read-active.result.scan) (head_of c.args.entry.now.head) c.requires.changes.plain (sym c.admits.ensures ∙ fits) in
       let needs = active-needs c.args.g c.args.image.now carried in
       change-some (blocks_of c.args.g) (sectors_of c.args.g) w limit e (blocks_in c.args.g c.args.image.now) 0
       (fits-open (need_of e.head) limit w (views_in c.args.g c.args.image.now) (rw (sym here) (omega (arith, room, needs, same))))
@@ -78,7 +78,7 @@ module _ (c : After-admits) where
 
 -- what was done, by the writer of the allowance
 appended : (c : After-map-made)
-    → Did c.new-writer.result (append (blocks_of c.args.g) (sector_no c.args.w) (entry_for c.args.head c.args.value.now) (blocks_in c.args.g c.args.image.now)) c.append.new.writer c.map-made.result
+    → Did c.new-writer.result (append (blocks_of c.args.g) (sector_no c.args.w) (entry_of c.args.entry.now) (blocks_in c.args.g c.args.image.now)) c.append.new.writer c.map-made.result
 appended c =
     let w = c.new-writer.ensures in
     let same = not-ok c.map-made.result ∙ ap not c.map-made.ensures.variant ∙ sym (not-ok c.append.result) in
@@ -88,12 +88,9 @@ pub read-active-requires : goal.read-active-requires
 read-active-requires c =
     omega (arith, inside (goal.at.read-active-requires c).Start, ap sectors_of c.image.ensures.geometry, ap sectors_of c.new-writer.ensures.geometry)
 
-pub admits-requires-clause-small : goal.admits-requires-clause-small
-admits-requires-clause-small c =
-    rw (read-is (goal.at.admits-requires-clause-small c).After-read-active) (scan-bounded c.args.g c.args.image.now (sector_no c.args.w) (inside (goal.at.admits-requires-clause-small c).Start)).small
-
-pub admits-requires-clause-length_fits : goal.admits-requires-clause-length_fits
-admits-requires-clause-length_fits c = changes-short (blocks_of c.args.g) c.args.head c.args.g.sound.blocks_to c.requires.changes
+pub admits-requires : goal.admits-requires
+admits-requires c =
+    rw (read-is (goal.at.admits-requires c).After-read-active) (scan-bounded c.args.g c.args.image.now (sector_no c.args.w) (inside (goal.at.admits-requires c).Start)).small
 
 pub append-requires-clause-carries : goal.append-requires-clause-carries
 append-requires-clause-carries c =

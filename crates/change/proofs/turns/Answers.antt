@@ -2,12 +2,11 @@
 -- Assumes nothing.
 use mathlib.Core.Path.{subst}
 use Prim.Native.Nat.{suc, ◌-◌, ◌+◌}
-use native.Mathlib.Nat.{sub-zero}
 use native.Mathlib.Omega.{arith}
 use Rattle.rules.specs.Stores.{moved}
 use Rattle.layout.specs.Numbers.{sector_no}
 use Rattle.image.proofs.Laws.{rest-inside}
-use Rattle.change.proofs.Moving.{rests-spare, Turning, turning-none, turning-end, turning-cut, turning-more, turned-inside, turned-few}
+use Rattle.change.proofs.Moving.{rests-spare, Turning, turning-end, turning-cut, turning-more, turned-inside, turned-few}
 use Rattle.change.proofs.turns.Goals as goal
 use Rattle.change.proofs.turns.Goals.{In-loop-turn}
 
@@ -18,10 +17,6 @@ begun c =
     let l = c.loop-turn in
     subst (Turning (sector_no c.args.active.sector) c.args.turn_count c.args.writer.now l.writer l.working l.noted)
     (omega (arith, c.loop-turn-test.true)) l.invariant
-
-pub loop-turn-init : goal.loop-turn-init
-loop-turn-init c =
-    rw (sub-zero c.args.turn_count) (turning-none c.args.turn_count c.args.writer.now c.requires.opened c.requires.counts c.well_formed.1.1.0.1.1.0.1.0.1)
 
 pub turn-requires : goal.turn-requires
 turn-requires c =

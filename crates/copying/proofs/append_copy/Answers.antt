@@ -89,9 +89,6 @@ pub overflow_sub-blocks-2 : goal.overflow_sub-blocks-2
 overflow_sub-blocks-2 c =
     omega (arith, c.blocks-2.ensures, (entries-counted c.args.writer.now.geometry c.args.writer.now.image.now (sector_no c.args.from) c.requires.from_bound).few, c.requires.n_in_bounds)
 
-pub copied-bytes-requires : goal.copied-bytes-requires
-copied-bytes-requires c = (fitting (goal.at.copied-bytes-requires c).After-source_of-source).before.data_end
-
 pub copy_data-requires-clause-source_inside : goal.copy_data-requires-clause-source_inside
 copy_data-requires-clause-source_inside c = source-inside (goal.at.copy_data-requires-clause-source_inside c).After-source_of-source
 

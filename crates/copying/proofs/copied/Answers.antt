@@ -14,7 +14,7 @@ pub returns-then-small-le-SMALL : goal.returns-then-small-le-SMALL
 unfolding copy_of
 returns-then-small-le-SMALL c = let block : List ℕ = c.args.block.now in
     let few : length_of block ≤ 8 = omega (arith, c.if-small-le-SMALL.true) in
-    let count : 8 + c.length_in-length.result - 8 ≡ length_of block = omega arith in
+    let count : 8 + c.from-small.result - 8 ≡ length_of block = omega arith in
     c.small_value.ensures
     ∙ ap₂ (small_value_block _) c.id_in-id.ensures (ap (λ (n : ℕ). take n (drop 8 block)) count)
     ∙ sym (simp (le-leb (length_of block) 8 few))

@@ -15,7 +15,7 @@ use Rattle.layout.specs.Numbers.{sector_no, block_no}
 use Rattle.layout.specs.Geometry.{blocks_of, sectors_of}
 use Rattle.budget.specs.Budget.{held}
 use Rattle.budget.proofs.Laws.{did_none}
-use Rattle.append.proofs.DataBlocks.{data-more, data-cut, data-all}
+use Rattle.append.proofs.DataBlocks.{data-more, data-cut}
 use Rattle.copying.proofs.Copying.{source-count, source-block, source-sized, source_stays}
 use Rattle.copying.proofs.copy_data.Goals as goal
 use Rattle.copying.proofs.copy_data.Invariants.{blocks_from}
@@ -23,7 +23,7 @@ use Rattle.copying.proofs.copy_data.Goals.{In-loop-k}
 
 -- there is a block more to copy
 few : (c : In-loop-k) → c.loop-k.k < data_blocks c.args.source.length
-few c = omega (arith, c.loop-k-test.true, c.data_blocks-k-end.ensures)
+few c = omega (arith, c.loop-k-test.true, c.data_blocks-k-end.ensures, ap data_blocks c.from.ensures)
 
 inside : (c : In-loop-k) → c.loop-k.k < length (blocks_from c.args.writer.now (sector_no c.args.from) c.args.source)
 inside c =
@@ -63,8 +63,3 @@ loop-k-preserved c =
     let same = source-block c.args.writer.now (sector_no c.args.from) c.args.source.first (data_blocks c.args.source.length) c.requires.from_bound c.requires.source_inside c.loop-k.k (few k.In-loop-k) in
     let block = rw (ap block_no c.new.ensures, c.image.ensures.geometry, c.image.ensures.bytes, stays k.In-loop-k) at c.block-block.ensures ∙ sym same in
     data-more (sector_no c.args.active.sector) c.args.active.scan.data_end _ c.loop-k.k c.loop-k.invariant (inside k.In-loop-k) (rw (ap block_no c.new-b.ensures, block) at c.in_ok-put.ensures)
-
-pub returns : goal.returns
-returns c =
-    let count = source-count c.args.writer.now (sector_no c.args.from) c.args.source.first (data_blocks c.args.source.length) c.requires.from_bound c.requires.source_inside in
-    data-all (sector_no c.args.active.sector) c.args.active.scan.data_end _ c.loop-k.k c.loop-k.invariant (omega (arith, count, c.loop-k-test.false, c.data_blocks-k-end.ensures))

@@ -9,17 +9,17 @@ use Rattle.rules.specs.Ground.{block_size}
 use Rattle.rules.specs.Entry.{length_of}
 use Rattle.copying.specs.Copy.{first_of}
 use Rattle.copying.proofs.source_of.Goals as goal
-use Rattle.copying.proofs.source_of.Goals.{then-length-le-SMALL, else-length-le-SMALL}
+use Rattle.copying.proofs.source_of.Goals.{then-from-le-SMALL, else-from-le-SMALL}
 
 pub returns : goal.returns
 unfolding first_of
 returns c =
     let block : List ℕ = c.args.block.now in
-    let length : c.from-length.result ≡ length_of block = c.from-length.ensures ∙ c.length_in.ensures in
-    let first : c.if-length-le-SMALL.first ≡ first_of block =
-    elim c.if-length-le-SMALL.branch [
-      | then-length-le-SMALL w ↦ w.first-is ∙ sym (simp (le-leb (length_of block) 8 (omega (arith, length, w.if-length-le-SMALL.true))))
-      | else-length-le-SMALL w ↦
-          w.first-is ∙ ap (λ (n : ℕ). n / block_size) w.offset_in.ensures ∙ sym (simp (lt-leb (length_of block) 8 (omega (arith, length, w.if-length-le-SMALL.false))))
+    let length : c.from.result ≡ length_of block = c.from.ensures ∙ c.length_in-length.ensures in
+    let first : c.if-from-le-SMALL.first ≡ first_of block =
+    elim c.if-from-le-SMALL.branch [
+      | then-from-le-SMALL w ↦ w.first-is ∙ sym (simp (le-leb (length_of block) 8 (omega (arith, length, w.if-from-le-SMALL.true))))
+      | else-from-le-SMALL w ↦
+          w.first-is ∙ ap (λ (n : ℕ). n / block_size) w.offset_in.ensures ∙ sym (simp (lt-leb (length_of block) 8 (omega (arith, length, w.if-from-le-SMALL.false))))
     ] in
-    λ i. record { id = c.id_in.ensures i; length = length i; first = first i }
+    λ i. record { id = c.id_in.ensures i; length = c.length_in-length.ensures i; first = first i }

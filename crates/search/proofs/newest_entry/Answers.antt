@@ -17,15 +17,9 @@ loop-passed-init c = seeking-start _ _ _ _ c.requires.w_bound c.args.image.now.g
 left : (c : In-loop-passed) → 0 < sectors_of c.args.image.now.geometry - c.loop-passed._passed
 left c = omega (arith, c.loop-passed-test.true, c.sectors-passed-end.ensures)
 
-pub newest_at-requires : goal.newest_at-requires
-newest_at-requires c = record { s_bound = c.loop-passed.invariant.inside }
-
 pub returns-in-Some : goal.returns-in-Some
 returns-in-Some c =
     ap newest_as (sym (seeking-found c.loop-passed.invariant (left (goal.at.returns-in-Some c).In-loop-passed) (sym c.newest_at.ensures ∙ c.in-Some.is)))
-
-pub previous_sector-s-requires : goal.previous_sector-s-requires
-previous_sector-s-requires c = c.loop-passed.invariant.inside
 
 pub loop-passed-preserved : goal.loop-passed-preserved
 loop-passed-preserved c =

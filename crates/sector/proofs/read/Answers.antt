@@ -15,9 +15,8 @@ use Rattle.entry.specs.Answer.{scan_of, verdict_as}
 use Rattle.entry.proofs.Laws.{is-entry, no-entry}
 use Rattle.sector.specs.declared.Entries.{Entries}
 use Rattle.sector.proofs.Standing.{stand-start, stand-left, stand-next, stand-end, stand-noted, stand-done}
-use Rattle.sector.proofs.Laws.{stand-bounded}
 use Rattle.sector.proofs.read.Goals as goal
-use Rattle.sector.proofs.read.Goals.{After-block, else-to_done-via-then-to_done+else-next, else-to_done-via-else-to_done}
+use Rattle.sector.proofs.read.Goals.{After-block, then-to_done+else-next, else-to_done, then-loop-count-test+in-Ok-2+else-count-first, else-loop-count-test}
 
 one-more : (B count : ℕ) → 0 < B - 3 - count → count + 1 + 3 ≤ B
 one-more B count left = omega arith
@@ -42,13 +41,9 @@ loop-count-init c =
       undone = rw c.start-scan.ensures (and-false c.args.to_done);
     }
 
-pub block-requires : goal.block-requires
-block-requires c =
-    (stand-bounded c.args.sector.now.geometry.sound.blocks_to c.loop-count.invariant.standing).small
-
-pub returns-then-next : goal.returns-then-next
-returns-then-next c =
-    let told = is-entry _ _ (sym (looked (goal.at.returns-then-next c).After-block) ∙ c.in-Ok.is) in
+pub returns-in-Ok : goal.returns-in-Ok
+returns-in-Ok c =
+    let told = is-entry _ _ (sym (looked (goal.at.returns-in-Ok c).After-block) ∙ c.in-Ok.is) in
     let done = stand-done (stand-next c.loop-count.invariant.standing told.1) (ap (λ (x : rule.Scan). x.done) (sym told.2) ∙ c.if-next.true) in
     rw (c.if-to_done.true, sym done)
 
@@ -72,15 +67,19 @@ loop-count-preserved c =
     record {
       standing = rw (told.2, sym down) (stand-next s told.1);
       left = one-more B c.loop-count.count (stand-left s told.1);
-      undone = elim c.else-to_done.branch [
-        | else-to_done-via-then-to_done+else-next w ↦ rw w.if-next.false (and-false c.args.to_done)
-        | else-to_done-via-else-to_done w ↦ rw w.if-to_done.false
+      undone = elim c.if-to_done.branch [
+        | then-to_done+else-next w ↦ rw w.if-next.false (and-false c.args.to_done)
+        | else-to_done w ↦ rw w.if-to_done.false
       ];
     }
 
-pub returns-else-to_done : goal.returns-else-to_done
-returns-else-to_done c =
+pub unreachable-requires : goal.unreachable-requires
+unreachable-requires c =
     let B : ℕ = blocks_of c.args.sector.now.geometry in
-    let last : B ≤ c.loop-count.count + 3 = omega (arith, c.blocks-first.ensures) in
-    let told = is-entry _ _ (sym (looked (goal.at.returns-else-to_done c).After-block) ∙ c.in-Ok.is) in
-    absurd (none-more B c.loop-count.count last (stand-left c.loop-count.invariant.standing told.1))
+    elim c.loop-count-test.branch [
+      | then-loop-count-test+in-Ok-2+else-count-first w ↦
+          let last : B ≤ c.loop-count.count + 3 = omega (arith, c.blocks-first.ensures) in
+          let told = is-entry _ _ (sym (rw (w.block-block.ensures, w.new.ensures, c.blocks-first.ensures) at w.block.ensures) ∙ w.in-Ok.is) in
+          none-more B c.loop-count.count last (stand-left c.loop-count.invariant.standing told.1)
+      | else-loop-count-test w ↦ omega (arith, w.loop-count-test.false, c.loop-count.invariant.left, c.blocks-first.ensures)
+    ]

@@ -16,13 +16,15 @@ use Rattle.rules.proofs.Ring.Order.{next-lt, next-ne}
 use Rattle.layout.specs.declared.Geometry.{Geometry}
 use Rattle.layout.specs.Numbers.{sector_no}
 use Rattle.layout.specs.Geometry.{blocks_of, sectors_of}
+use Rattle.entry.specs.declared.Head.{Head}
 use Rattle.image.specs.Answer.{active_as}
 use Rattle.budget.specs.Budget.{held, shown}
 use Rattle.budget.proofs.Laws.{whole_image, did-as, did-and-then}
+use Rattle.append.specs.Append.{entry_for, entry_of}
 use Rattle.append.proofs.AfterAppend.{append-lies, appended-active, appended-others}
 use Rattle.turn.proofs.Stepping.{step-here, step-others, turned-cut}
 use Rattle.turn.proofs.end_turn.Goals as goal
-use Rattle.turn.proofs.end_turn.Goals.{Start}
+use Rattle.turn.proofs.end_turn.Goals.{Start, After-done}
 
 module _ (c : Start) where
   -- the sector after the active one
@@ -34,12 +36,16 @@ module _ (c : Start) where
   unfolding done_entry
   lies = append-lies c.args.writer.now c.requires.carries.inside c.requires.carries.told done-proper c.requires.done_fits
 
+-- the entry that is appended is the done
+due : (c : After-done) → entry_of c.done.result ≡ done_entry
+due c = ap (λ (h : Head). entry_for h c.done.result.value.now) c.done.ensures.head
+
 pub returns-in_err-working : goal.returns-in_err-working
 returns-in_err-working c =
     let w = c.args.writer.now in
     let u : ℕ = sector_no c.args.active.sector in
     turned-cut (append (blocks_of w.geometry) u done_entry) (reopen (blocks_of w.geometry) (next (sectors_of w.geometry) u)) (held w)
-    c.in_err-working.ensures.did c.from_residual.ensures.0
+    (rw (due (goal.at.returns-in_err-working c).After-done) at c.in_err-working.ensures.did) c.from_residual.ensures.0
 
 pub reopen-requires : goal.reopen-requires
 reopen-requires c =
@@ -53,7 +59,7 @@ returns-in_err-reopen c =
     record {
       did = did-as cut
           (did-and-then (append (blocks_of w.geometry) u done_entry) (λ (g : Geometry). reopen (blocks_of g) (next (sectors_of w.geometry) u)) (lies (goal.at.returns-in_err-reopen c).Start)
-          c.in_ok-working.ensures.did (rw c.next_sector-oldest.ensures at c.in_err-reopen.ensures));
+          (rw (due (goal.at.returns-in_err-reopen c).After-done) at c.in_ok-working.ensures.did) (rw c.next_sector-oldest.ensures at c.in_err-reopen.ensures));
       moved = IfOk-from_err _ _ cut;
     }
 
@@ -66,7 +72,7 @@ returns c =
     let u : ℕ = sector_no c.args.active.sector in
     let o : ℕ = next S u in
     let middle = c.append.new.writer in
-    let did = c.in_ok-working.ensures.did in
+    let did = rw (due (goal.at.returns c).After-done) at c.in_ok-working.ensures.did in
     let k = (goal.at.returns c).Start in
     let carried = c.requires.carries in
     let apart : o ≡ u → ⊥ = next-ne S u w.geometry.sound.sectors_from in
@@ -79,7 +85,7 @@ returns c =
       did = did-as refl (did-and-then (append B u done_entry) (λ (g : Geometry). reopen (blocks_of g) o) (lies k) did reopened);
       moved = record {
         told =
-            c.in_ok-working.ensures.active
+            rw c.done.ensures.head at c.in_ok-working.ensures.active
             ∙ appended-active w carried.inside carried.told done-proper c.requires.done_fits did
             ∙ ap (active_as u) (sym (others u (λ same. apart (sym same))));
         unused = ap (λ (v : View). v.entries) (step-here middle reopened_view o atomic reopened inside);

@@ -1,17 +1,14 @@
 -- `finish_turn`: the copies, and then the end of the turn.
 -- Assumes nothing.
-use mathlib.Core.Path.{◌≡◌, sym, ap, subst}
-use mathlib.Core.Bool.{true}
+use mathlib.Core.Path.{◌≡◌, ap}
 use Prim.Native.Nat.{ℕ}
 use native.Mathlib.Omega.{arith}
-use Rattle.rules.specs.Look.{done, is_within}
 use Rattle.rules.specs.Reading.{View}
 use Rattle.rules.specs.Meaning.{next}
 use Rattle.rules.specs.Stores.{◌and_then◌, append, append_all, survivors, done_entry, reopen, finish_turn}
 use Rattle.layout.specs.declared.Geometry.{Geometry}
 use Rattle.layout.specs.Numbers.{sector_no}
 use Rattle.layout.specs.Geometry.{blocks_of, sectors_of}
-use Rattle.entry.specs.Answer.{scan_of}
 use Rattle.image.specs.declared.active.Active.{Active}
 use Rattle.image.proofs.Laws.{carries-at}
 use Rattle.budget.specs.Budget.{held}
@@ -32,10 +29,6 @@ pub end_turn-requires-clause-carries : goal.end_turn-requires-clause-carries
 end_turn-requires-clause-carries c =
     let did = c.in_ok-filled.ensures.did in
     carries-at _ _ (sector_no c.args.active.sector) (omega (arith, ap sectors_of did.geometry, c.requires.carries.inside)) c.in_ok-filled.ensures.gathered.told
-
-pub end_turn-requires-clause-done_fits : goal.end_turn-requires-clause-done_fits
-end_turn-requires-clause-done_fits c =
-    subst (λ (g : Geometry). is_within (blocks_of g) (scan_of c.in_ok-filled.filled.scan) done ≡ true) (sym c.in_ok-filled.ensures.did.geometry) c.in_ok-filled.ensures.gathered.room
 
 pub returns : goal.returns
 unfolding finish_turn

@@ -27,9 +27,6 @@ copy_live-requires-clause-counted c =
     ∙ entries-noted c.args.writer.now.geometry c.args.writer.now.image.now (sector_no c.next_sector-oldest.result) (oldest-inside (goal.at.copy_live-requires-clause-counted c).After-next_sector-oldest) c.requires.counts
     ∙ ap (λ (s : ℕ). length (view_at (shown c.args.writer.now) s).entries) c.next_sector-oldest.ensures
 
-pub copy_live-requires-clause-live_marked : goal.copy_live-requires-clause-live_marked
-copy_live-requires-clause-live_marked c = rw (c.image.ensures.geometry, c.image.ensures.bytes) at c.live_oldest-live.ensures
-
 pub returns-clause-did : goal.returns-clause-did
 returns-clause-did c =
     rw (survivors-are c.args.writer.now (sector_no c.args.active.sector) c.requires.carries.inside) c.copy_live.ensures.did

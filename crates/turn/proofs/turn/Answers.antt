@@ -65,10 +65,6 @@ pub unused-spare-requires-clause-s_bound : goal.unused-spare-requires-clause-s_b
 unused-spare-requires-clause-s_bound c =
     omega (arith, ap sectors_of c.image.ensures.geometry, c.next_sector.ensures, next-lt (sectors_of c.args.writer.now.geometry) (sector_no c.args.w) c.requires.w_bound)
 
-pub unused-spare-requires-clause-empty : goal.unused-spare-requires-clause-empty
-unused-spare-requires-clause-empty c =
-    rw (c.image.ensures.geometry, c.image.ensures.bytes, c.next_sector.ensures) c.requires.spare_empty
-
 pub returns-in_err-close : goal.returns-in_err-close
 unfolding turn
 returns-in_err-close c =

@@ -6,11 +6,11 @@ use native.Mathlib.Omega.{arith}
 use Rattle.rules.specs.Look.{need_of}
 use Rattle.entry.specs.declared.Head.{Head}
 use Rattle.entry.specs.Answer.{head_of}
-use Rattle.entry.proofs.Laws.{few-data}
+use Rattle.rules.proofs.Format.Look.{data-blocks-le}
 use Rattle.entry.proofs.Head.need.Goals as goal
 
 pub overflow_add-result : goal.overflow_add-result
-overflow_add-result c = omega (arith, c.data_blocks.ensures, few-data _ c.in-Value.is c.requires)
+overflow_add-result c = omega (arith, c.data_blocks.ensures, data-blocks-le c.in-Value.length)
 
 pub returns-in-Done : goal.returns-in-Done
 unfolding need_of

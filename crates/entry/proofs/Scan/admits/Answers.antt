@@ -8,12 +8,12 @@ use Rattle.rules.specs.Ground.{kept_from_values}
 use Rattle.rules.specs.Look.{need_of, is_within}
 use Rattle.layout.specs.Geometry.{blocks_of}
 use Rattle.entry.specs.Answer.{scan_of, head_of}
-use Rattle.entry.proofs.Laws.{few-data}
+use Rattle.rules.proofs.Format.Look.{data-blocks-le}
 use Rattle.entry.proofs.Scan.admits.Goals as goal
 use Rattle.entry.proofs.Scan.admits.Goals.{After-data_blocks}
 
 few : (c : After-data_blocks) → c.data_blocks.result < 2 ^ 16
-few c = rw c.data_blocks.ensures (few-data _ c.in-Value.is c.requires.length_fits)
+few c = omega (arith, c.data_blocks.ensures, data-blocks-le c.in-Value.length)
 
 pub overflow_add-result-in-Value : goal.overflow_add-result-in-Value
 overflow_add-result-in-Value c = omega (arith, few (goal.at.overflow_add-result-in-Value c).After-data_blocks)

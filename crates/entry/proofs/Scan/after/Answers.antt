@@ -2,7 +2,7 @@
 -- Assumes nothing.
 use mathlib.Core.Path.{sym, ap, ◌∙◌}
 use mathlib.Core.Bool.{or-true, or-false}
-use Prim.Native.Nat.{◌+◌, ◌<◌, ◌^◌}
+use Prim.Native.Nat.{◌+◌, ◌<◌, ◌≤◌, ◌^◌}
 use native.Mathlib.Nat.{add-zero}
 use native.Mathlib.Omega.{arith}
 use Rattle.rules.specs.Look.{after, need_of, data_of, is_done}
@@ -12,8 +12,10 @@ use Rattle.entry.proofs.Laws.{few-data}
 use Rattle.entry.proofs.Scan.after.Goals as goal
 use Rattle.entry.proofs.Scan.after.Goals.{After-data_blocks-data}
 
-few : (c : After-data_blocks-data) → c.data_blocks-data.result < 2 ^ 16
-few c = rw c.data_blocks-data.ensures (few-data _ c.in-Value.is c.requires.length_fits)
+few : (c : After-data_blocks-data) → c.data_blocks-data.result ≤ 4096
+few c =
+    let short : c.in-Value.length < 2 ^ 16 = omega arith in
+    omega (arith, c.data_blocks-data.ensures, few-data c.in-Value.length short)
 
 pub overflow_add-result-in-Value : goal.overflow_add-result-in-Value
 overflow_add-result-in-Value c = omega (arith, few (goal.at.overflow_add-result-in-Value c).After-data_blocks-data)
@@ -23,6 +25,9 @@ overflow_add-result-in-Value-2 c = omega (arith, few (goal.at.overflow_add-resul
 
 pub overflow_add-result-in-Value-3 : goal.overflow_add-result-in-Value-3
 overflow_add-result-in-Value-3 c = omega (arith, few (goal.at.overflow_add-result-in-Value-3 c).After-data_blocks-data)
+
+pub overflow_cast-result : goal.overflow_cast-result
+overflow_cast-result c = omega (arith, few (goal.at.overflow_cast-result c).After-data_blocks-data)
 
 pub returns-in-Done : goal.returns-in-Done
 unfolding after need_of data_of is_done

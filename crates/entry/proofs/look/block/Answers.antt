@@ -42,50 +42,41 @@ unfolding look
 returns-then-is_erased c = let bytes : is_erased c.args.block.now ≡ true = sym c.is_erased.ensures ∙ c.if-is_erased.true in
     simp bytes
 
-pub returns-then-block-cycle : goal.returns-then-block-cycle
-unfolding cycle_of
-returns-then-block-cycle c =
-    sym (ap (verdict_as _) (other-cycle _ _ _ _ (sym c.if-is_erased.ensures) c.if-block-cycle.true))
+pub returns-then-cycle_in-cycle : goal.returns-then-cycle_in-cycle
+returns-then-cycle_in-cycle c =
+    sym (ap (verdict_as _) (other-cycle _ _ _ _ (sym c.if-is_erased.ensures) (λ e. c.if-cycle_in-cycle.true (c.cycle_in.ensures ∙ e))))
 
 pub returns-then-not-is_checked : goal.returns-then-not-is_checked
-unfolding cycle_of
 returns-then-not-is_checked c =
-    sym (ap (verdict_as _) (unchecked _ _ _ _ (sym c.if-is_erased.ensures) c.if-block-cycle.false (sym c.if-not-is_checked.ensures)))
+    let same = sym c.cycle_in.ensures ∙ c.if-cycle_in-cycle.false in
+    sym (ap (verdict_as _) (unchecked _ _ _ _ (sym c.if-is_erased.ensures) same (sym c.if-not-is_checked.ensures)))
 
 pub returns-in_err-head : goal.returns-in_err-head
-unfolding cycle_of
 returns-in_err-head c =
+    let same = sym c.cycle_in.ensures ∙ c.if-cycle_in-cycle.false in
     let p = err_from_is_err_and c.from_residual.result c.from_residual.ensures.1 in
     let none : c.head_of.result ≡ None = grind arith in
     let why : c.in_err-head.field-0.0 ≡ WrongForm = grind arith in
-    let form = wrong-form _ (sym c.head_of.ensures.form ∙ none) in
+    let form = wrong-form _ (sym c.head_of.ensures ∙ none) in
     rw (p.1, p.2, why)
-    (sym (ap (verdict_as _) (judged _ _ _ _ (sym c.if-is_erased.ensures) c.if-block-cycle.false (sym c.if-not-is_checked.ensures) form ∙ judge-none _ _)))
+    (sym (ap (verdict_as _) (judged _ _ _ _ (sym c.if-is_erased.ensures) same (sym c.if-not-is_checked.ensures) form ∙ judge-none _ _)))
 
 -- the head that was found
 found : (c : In_ok-head) → c.head_of.result ≡ Some c.in_ok-head.head
 found c = grind arith
 
-pub admits-requires : goal.admits-requires
-admits-requires c =
-    record { small = c.requires; length_fits = rw (found (goal.at.admits-requires c).In_ok-head) at c.head_of.ensures.length_fits }
-
-pub after-requires : goal.after-requires
-after-requires c =
-    record { small = c.requires; length_fits = rw (found (goal.at.after-requires c).In_ok-head) at c.head_of.ensures.length_fits }
-
 pub returns-then-not-admits : goal.returns-then-not-admits
-unfolding cycle_of
 returns-then-not-admits c =
-    let form = right-form _ (sym c.head_of.ensures.form ∙ found (goal.at.returns-then-not-admits c).In_ok-head) in
+    let same = sym c.cycle_in.ensures ∙ c.if-cycle_in-cycle.false in
+    let form = right-form _ (sym c.head_of.ensures ∙ found (goal.at.returns-then-not-admits c).In_ok-head) in
     let over = judge-over _ _ _ (sym c.if-not-admits.ensures) in
-    sym (ap (verdict_as _) (judged _ _ _ _ (sym c.if-is_erased.ensures) c.if-block-cycle.false (sym c.if-not-is_checked.ensures) form ∙ over))
+    sym (ap (verdict_as _) (judged _ _ _ _ (sym c.if-is_erased.ensures) same (sym c.if-not-is_checked.ensures) form ∙ over))
 
 pub returns : goal.returns
-unfolding cycle_of
 returns c =
+    let same = sym c.cycle_in.ensures ∙ c.if-cycle_in-cycle.false in
     let head : Head = c.in_ok-head.head in
-    let form = right-form _ (sym c.head_of.ensures.form ∙ found (goal.at.returns c).In_ok-head) in
+    let form = right-form _ (sym c.head_of.ensures ∙ found (goal.at.returns c).In_ok-head) in
     let within = judge-within _ _ (head_of head) (sym c.if-not-admits.ensures) in
     (λ i. Ok (sym (head-as-of head) i, c.after.ensures i))
-    ∙ sym (ap (verdict_as (scan_of c.args.before)) (judged _ _ _ _ (sym c.if-is_erased.ensures) c.if-block-cycle.false (sym c.if-not-is_checked.ensures) form ∙ within))
+    ∙ sym (ap (verdict_as (scan_of c.args.before)) (judged _ _ _ _ (sym c.if-is_erased.ensures) same (sym c.if-not-is_checked.ensures) form ∙ within))

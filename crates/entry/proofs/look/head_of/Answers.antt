@@ -14,7 +14,7 @@ use lib.Seq.{drop-drop}
 use borrow.Author.Tests.{eq-eqb, ne_eqb, le-leb, lt-leb}
 use Rattle.rules.specs.Notation.{when, number_of, is_erased}
 use Rattle.rules.specs.Ground.{block_size, reserved_id}
-use Rattle.rules.specs.Entry.{id_of, length_of, body_of}
+use Rattle.rules.specs.Entry.{offset_of, id_of, length_of, body_of}
 use Rattle.rules.specs.Look as rule
 use Rattle.rules.specs.Look.{form_of}
 use Rattle.layout.specs.Options.{option_as}
@@ -31,10 +31,10 @@ unfolding when
 told-when true head = ap (λ (h : Head). Some h) (sym (head-as-of head))
 told-when false head = refl
 
-module _ (block : List ℕ) (data_end : ℕ) {id len : ℕ} (id-read : id ≡ number_of (take 4 (drop 4 block))) (len-read : len ≡ number_of (take 2 (drop 2 block))) where
+module _ (block : List ℕ) (data_end : ℕ) {id len : ℕ} (id-read : id ≡ id_of block) (len-read : len ≡ length_of block) where
   told : {r : code.Option Head} (b : Bool) (head : Head) → r ≡ then_some b head → form_of data_end id len (body_of block) ≡ when b (head_of head)
       → r ≡ option_map head_as (option_as (rule.head_of data_end block))
-  unfolding rule.head_of id_of length_of
+  unfolding rule.head_of
   told b head answer form =
       answer ∙ told-when b head
       ∙ ap (λ (o : Option rule.Head). option_map head_as (option_as o))
@@ -59,38 +59,38 @@ module _ (data_end id len : ℕ) (body : List ℕ) where
       unfolding form_of
       long-form long = simp (ne_eqb _ _ other, ne_eqb _ _ some, lt-leb _ _ long)
 
-pub returns-after-length-eq0-clause-form : goal.returns-after-length-eq0-clause-form
+pub returns-after-length-eq0 : goal.returns-after-length-eq0
 unfolding body_of
-returns-after-length-eq0-clause-form c =
+returns-after-length-eq0 c =
     let block : List ℕ = c.args.block.now in
-    let test : c.if-length-eq0.then_some ≡ (eqb c.le16-length.result 0 && is_erased (drop 8 block)) = elim c.if-length-eq0.branch [
+    let test : c.if-length-eq0.then_some ≡ (eqb c.length_in-told.result 0 && is_erased (drop 8 block)) = elim c.if-length-eq0.branch [
       | then-length-eq0 w ↦ w.then_some-is ∙ rw (eq-eqb _ _ w.if-length-eq0.true) (w.is_erased.ensures ∙ ap is_erased (rest_of_block 8 block c.told-block))
       | else-length-eq0 w ↦ w.then_some-is ∙ rw (ne_eqb _ _ w.if-length-eq0.false)
     ] in
-    told block _ c.le32-id.ensures c.le16-length.ensures _ Done c.then_some.ensures (done-form _ _ _ _ c.if-id.true ∙ ap (λ (b : Bool). when b rule.done) (sym test))
+    told block _ c.id_in-id.ensures c.length_in-told.ensures _ Done c.then_some.ensures (done-form _ _ _ _ c.if-id.true ∙ ap (λ (b : Bool). when b rule.done) (sym test))
 
-pub returns-then-length-eq0-2-clause-form : goal.returns-then-length-eq0-2-clause-form
+pub returns-then-length-eq0-2 : goal.returns-then-length-eq0-2
 unfolding body_of
-returns-then-length-eq0-2-clause-form c =
+returns-then-length-eq0-2 c =
     let block : List ℕ = c.args.block.now in
     let test = c.is_erased-then-length-eq0-2.ensures ∙ ap is_erased (rest_of_block 8 block c.told-block) in
-    told block _ c.le32-id.ensures c.le16-length.ensures _ (Deletion _) c.then_some-then-length-eq0-2.ensures
-    (deletion-form _ _ _ _ c.if-id.false c.if-length-eq0-2.true ∙ ap (λ (b : Bool). when b (rule.deletion c.le32-id.result)) (sym test))
+    told block _ c.id_in-id.ensures c.length_in-told.ensures _ (Deletion _) c.then_some-then-length-eq0-2.ensures
+    (deletion-form _ _ _ _ c.if-id.false c.if-length-eq0-2.true ∙ ap (λ (b : Bool). when b (rule.deletion c.id_in-id.result)) (sym test))
 
-pub returns-then-length-le-SMALL-clause-form : goal.returns-then-length-le-SMALL-clause-form
+pub returns-then-length-le-SMALL : goal.returns-then-length-le-SMALL
 unfolding body_of
-returns-then-length-le-SMALL-clause-form c =
+returns-then-length-le-SMALL c =
     let block : List ℕ = c.args.block.now in
-    let len = c.le16-length.result in
+    let len = c.length_in-told.result in
     let test = c.is_erased-then-length-le-SMALL.ensures ∙ ap is_erased (rest_of_block (8 + len) block c.told-block ∙ sym (drop-drop len 8 block)) in
-    told block _ c.le32-id.ensures c.le16-length.ensures _ (Value _ _) c.then_some-then-length-le-SMALL.ensures
-    (small-form _ _ _ _ c.if-id.false c.if-length-eq0-2.false c.if-length-le-SMALL.true ∙ ap (λ (b : Bool). when b (rule.value c.le32-id.result len)) (sym test))
+    told block _ c.id_in-id.ensures c.length_in-told.ensures _ (Value _ _) c.then_some-then-length-le-SMALL.ensures
+    (small-form _ _ _ _ c.if-id.false c.if-length-eq0-2.false c.if-length-le-SMALL.true ∙ ap (λ (b : Bool). when b (rule.value c.id_in-id.result len)) (sym test))
 
-pub returns-else-length-le-SMALL-clause-form : goal.returns-else-length-le-SMALL-clause-form
-unfolding body_of
-returns-else-length-le-SMALL-clause-form c =
+pub returns-else-length-le-SMALL : goal.returns-else-length-le-SMALL
+unfolding body_of offset_of
+returns-else-length-le-SMALL c =
     let block : List ℕ = c.args.block.now in
-    let len = c.le16-length.result in
-    told block _ c.le32-id.ensures c.le16-length.ensures _ (Value _ _) c.then_some-else-length-le-SMALL.ensures
+    let len = c.length_in-told.result in
+    told block _ c.id_in-id.ensures c.length_in-told.ensures _ (Value _ _) c.then_some-else-length-le-SMALL.ensures
     (long-form _ _ _ _ c.if-id.false c.if-length-eq0-2.false c.if-length-le-SMALL.false
-    ∙ ap (λ (n : ℕ). when (eqb n (c.args.data_end * block_size)) (rule.value c.le32-id.result len)) (sym c.le32-offset.ensures))
+    ∙ ap (λ (n : ℕ). when (eqb n (c.args.data_end * block_size)) (rule.value c.id_in-id.result len)) (sym c.offset_in-offset.ensures))

@@ -2,7 +2,8 @@
 -- Assumes nothing.
 use mathlib.Core.Bool.{false≢true}
 use mathlib.Core.Path.{sym, ap, ◌∙◌}
-use Rattle.rules.specs.Entry.{cycle_of, length_of, id_of, offset_of, crc32_of}
+use Prim.Native.Nat.{ℕ}
+use Rattle.std.specs.Prelude.{Some}
 use Rattle.rules.proofs.Format.Look.{Leads, no_lead, lead-found}
 use Rattle.layout.specs.Options.{option_as}
 use Rattle.entry.proofs.look.lead.Goals as goal
@@ -10,30 +11,25 @@ use Rattle.entry.proofs.look.lead.Goals as goal
 pub returns-then-not-is_checked : goal.returns-then-not-is_checked
 returns-then-not-is_checked c = sym (ap option_as (no_lead _ (λ f. false≢true (sym (c.if-not-is_checked.true) ∙ c.is_checked.ensures ∙ f.right_check))))
 
-pub returns-then-le32-ne-RESERVED_ID : goal.returns-then-le32-ne-RESERVED_ID
-unfolding id_of
-returns-then-le32-ne-RESERVED_ID c = sym (ap option_as (no_lead _ (λ f. c.if-le32-ne-RESERVED_ID.true (c.le32.ensures ∙ f.reserved))))
+pub returns-then-id_in-ne-RESERVED_ID : goal.returns-then-id_in-ne-RESERVED_ID
+returns-then-id_in-ne-RESERVED_ID c = sym (ap option_as (no_lead _ (λ f. c.if-id_in-ne-RESERVED_ID.true (c.id_in.ensures ∙ f.reserved))))
 
-pub returns-then-le16-ne-LEAD_LENGTH : goal.returns-then-le16-ne-LEAD_LENGTH
-unfolding length_of
-returns-then-le16-ne-LEAD_LENGTH c = sym (ap option_as (no_lead _ (λ f. c.if-le16-ne-LEAD_LENGTH.true (c.le16.ensures ∙ f.long))))
+pub returns-then-length_in-ne-LEAD_LENGTH : goal.returns-then-length_in-ne-LEAD_LENGTH
+returns-then-length_in-ne-LEAD_LENGTH c = sym (ap option_as (no_lead _ (λ f. c.if-length_in-ne-LEAD_LENGTH.true (c.length_in.ensures ∙ f.long))))
 
-pub returns-then-le32-ne0 : goal.returns-then-le32-ne0
-unfolding offset_of
-returns-then-le32-ne0 c = sym (ap option_as (no_lead _ (λ f. c.if-le32-ne0.true (c.le32-2.ensures ∙ f.zero))))
+pub returns-then-offset_in-ne0 : goal.returns-then-offset_in-ne0
+returns-then-offset_in-ne0 c = sym (ap option_as (no_lead _ (λ f. c.if-offset_in-ne0.true (c.offset_in.ensures ∙ f.zero))))
 
-pub returns-then-le32-ne-LEAD_MARK : goal.returns-then-le32-ne-LEAD_MARK
-unfolding crc32_of
-returns-then-le32-ne-LEAD_MARK c = sym (ap option_as (no_lead _ (λ f. c.if-le32-ne-LEAD_MARK.true (c.le32-3.ensures ∙ f.marked))))
+pub returns-then-crc32_in-ne-LEAD_MARK : goal.returns-then-crc32_in-ne-LEAD_MARK
+returns-then-crc32_in-ne-LEAD_MARK c = sym (ap option_as (no_lead _ (λ f. c.if-crc32_in-ne-LEAD_MARK.true (c.crc32_in.ensures ∙ f.marked))))
 
 pub returns : goal.returns
-unfolding cycle_of length_of id_of offset_of crc32_of
 returns c = let block = c.args.block.now in
     let f : Leads block = record {
       right_check = sym c.is_checked.ensures ∙ c.if-not-is_checked.false;
-      reserved = sym c.le32.ensures ∙ c.if-le32-ne-RESERVED_ID.false;
-      long = sym c.le16.ensures ∙ c.if-le16-ne-LEAD_LENGTH.false;
-      zero = sym c.le32-2.ensures ∙ c.if-le32-ne0.false;
-      marked = sym c.le32-3.ensures ∙ c.if-le32-ne-LEAD_MARK.false;
+      reserved = sym c.id_in.ensures ∙ c.if-id_in-ne-RESERVED_ID.false;
+      long = sym c.length_in.ensures ∙ c.if-length_in-ne-LEAD_LENGTH.false;
+      zero = sym c.offset_in.ensures ∙ c.if-offset_in-ne0.false;
+      marked = sym c.crc32_in.ensures ∙ c.if-crc32_in-ne-LEAD_MARK.false;
     } in
-    sym (ap option_as (lead-found block f))
+    ap (λ (n : ℕ). Some n) c.cycle_in.ensures ∙ sym (ap option_as (lead-found block f))

@@ -11,25 +11,26 @@ use Rattle.rules.specs.Meaning.{view_at, next, state_by}
 use Rattle.rules.proofs.Ring.Order.{next-lt}
 use Rattle.layout.specs.Geometry.{sectors_of}
 use Rattle.layout.specs.Numbers.{sector_no}
+use Rattle.layout.proofs.Laws.{same-sector, other-sector}
 use Rattle.mask.specs.Flags.{sectors_in}
 use Rattle.mask.proofs.Laws.{empty-true, two-or-more}
 use Rattle.image.specs.Answer.{views}
 use Rattle.image.proofs.Sectors.{views-count, view-shown}
-use Rattle.image.proofs.States.{not-next, spare-used, spare-unused}
+use Rattle.image.proofs.States.{not-next, spare-decides}
 use Rattle.image.proofs.survey.state_with.Goals as goal
-use Rattle.image.proofs.survey.state_with.Goals.{After-is_unused, Else-number}
+use Rattle.image.proofs.survey.state_with.Goals.{After-is_unused, Else-ne}
 
 -- the spare is the one unfinished sector, and a sector of the geometry
-spare-is : (c : Else-number) → sectors_in c.args.unfinished ≡ sector_no c.next_sector-spare.result ∷ []
+spare-is : (c : Else-ne) → sectors_in c.args.unfinished ≡ sector_no c.next_sector-spare.result ∷ []
 spare-is c =
     c.which.ensures
-    ∙ ap (λ (n : ℕ). n ∷ []) (sym c.number.ensures ∙ c.if-number.false ∙ c.number-2.ensures)
+    ∙ ap (λ (n : ℕ). n ∷ []) (same-sector c.which.result c.next_sector-spare.result (sym c.ne.ensures ∙ c.if-ne.false))
 
-follows : (c : Else-number) → sector_no c.next_sector-spare.result ≡ next (length (views c.args.image.now)) (sector_no c.args.w)
+follows : (c : Else-ne) → sector_no c.next_sector-spare.result ≡ next (length (views c.args.image.now)) (sector_no c.args.w)
 follows c =
     c.next_sector-spare.ensures ∙ ap (λ (n : ℕ). next n (sector_no c.args.w)) (sym (views-count c.args.image.now.geometry c.args.image.now.bytes.now))
 
-inside : (c : Else-number) → sector_no c.next_sector-spare.result < sectors_of c.args.image.now.geometry
+inside : (c : Else-ne) → sector_no c.next_sector-spare.result < sectors_of c.args.image.now.geometry
 inside c =
     omega (arith, c.next_sector-spare.ensures, next-lt (sectors_of c.args.image.now.geometry) (sector_no c.args.w) c.requires.w_bound)
 
@@ -51,20 +52,15 @@ returns-then-not-is_one c = let some = sym c.is_empty.ensures ∙ c.if-is_empty.
     let not-one = sym c.is_one.ensures ∙ c.if-not-is_one.true in
     rw (two-or-more _ some not-one).3
 
-pub returns-then-number : goal.returns-then-number
-returns-then-number c =
+pub returns-then-ne : goal.returns-then-ne
+returns-then-ne c =
     let spare = c.next_sector-spare.ensures ∙ ap (λ (n : ℕ). next n (sector_no c.args.w)) (sym (views-count c.args.image.now.geometry c.args.image.now.bytes.now)) in
-    not-next (views c.args.image.now) (sector_no c.args.w) _ c.which.ensures (λ e. c.if-number.true (c.number.ensures ∙ e ∙ sym (c.number-2.ensures ∙ spare)))
+    not-next (views c.args.image.now) (sector_no c.args.w) _ c.which.ensures (λ e. other-sector c.which.result c.next_sector-spare.result (sym c.ne.ensures ∙ c.if-ne.true) (e ∙ sym spare))
 
 pub sector-requires : goal.sector-requires
-sector-requires c = inside (goal.at.sector-requires c).Else-number
-
-pub returns-then-is_unused : goal.returns-then-is_unused
-returns-then-is_unused c =
-    let t = goal.at.returns-then-is_unused c in
-    spare-unused (views c.args.image.now) (sector_no c.args.w) _ (spare-is t.Else-number) (follows t.Else-number) (sym (looked t.After-is_unused (inside t.Else-number)) ∙ c.if-is_unused.true)
+sector-requires c = inside (goal.at.sector-requires c).Else-ne
 
 pub returns : goal.returns
 returns c =
     let t = goal.at.returns c in
-    spare-used (views c.args.image.now) (sector_no c.args.w) _ (spare-is t.Else-number) (sym (looked t.After-is_unused (inside t.Else-number)) ∙ c.if-is_unused.false)
+    c.then_some.ensures ∙ spare-decides (views c.args.image.now) (sector_no c.args.w) _ (spare-is t.Else-ne) (follows t.Else-ne) c.is_unused.result (looked t.After-is_unused (inside t.Else-ne))

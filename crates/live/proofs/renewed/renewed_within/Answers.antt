@@ -27,19 +27,10 @@ pub loop-n-init : goal.loop-n-init
 unfolding renewed_flags
 loop-n-init c = (refl, refl, c.requires.empty, c.none-renewed.ensures)
 
-pub invariant_of-later : goal.invariant_of-later
-invariant_of-later c =
-    record { here = record { sector_inside = c.args.index.now.inside; inside = here (goal.at.invariant_of-later c).In-loop-n } }
-
 pub add-renewed-requires : goal.add-renewed-requires
 add-renewed-requires c =
     let t = goal.at.add-renewed-requires c in
     omega (arith, renewed-below _ _ _ (sym c.renewed_entry.ensures ∙ c.in-Some.is), c.loop-n.invariant.2, here t.In-loop-n, few t.Start)
-
-pub add-requires : goal.add-requires
-add-requires c =
-    let k = c.loop-n.invariant in
-    rw (k.0, k.1) (omega (arith, k.2, here (goal.at.add-requires c).In-loop-n))
 
 pub loop-n-preserved : goal.loop-n-preserved
 loop-n-preserved c =
