@@ -22,7 +22,7 @@ pub fn read(image: &Image, w: Sector, id: Id, buffer: &mut [u8]) -> Reply
     ensures answer { result ≡ reply_as (rule.read_entry (length buffer.old) (lookup (id_no id) (history (at_rest (sector_no w)) (views image.now)))) }
     ensures buffer { buffer.new ≡ rule.buffer_after (rule.read_entry (length buffer.old) (lookup (id_no id) (history (at_rest (sector_no w)) (views image.now)))) buffer.old }
 {
-    // Takes the answer apart by `let .. else`, the form that the rules name for it.
+    // "read uses let .. else to get place and length, otherwise returns refusal 8"
     let Some(
         Found {
             place,

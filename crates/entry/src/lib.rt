@@ -50,7 +50,7 @@ pub enum NoEntry {
     OverLimit,
 }
 
-// The ID of a value. (`number` is no `From`, as with a Sector.)
+// The ID of a value. (`number` tells what an `into()` would not, as with a Sector.)
 #[derive(Clone, Copy)]
 pub struct Id {
     number: u32,

@@ -11,11 +11,11 @@ mod storing;
 pub use image::{Image, SectorBytes};
 pub use storing::store_block;
 
-// Sector, Block and Place differ so that none stands in for another. One type over a marker would be no plainer: each
-// use would name the marker. Nor would `From` in place of `new` and `number`: an `into()` makes of any number what is
-// asked. That a number is below the count of a store stands in clauses: a type for it would carry the sizes beside each
-// number that is noted or handed out. A sector and a block go side by side: what goes through a sector's blocks would
-// take a pair apart at each step.
+// "Tuple structs for block, byte place and sector number, with the only conversions as proved functions between them":
+// so three types and not one over a marker, and `new` and `number`, which name the kind where an `into()` would not.
+// That a number is below the count of a store stands in clauses: a type for it would carry the sizes beside each number
+// that is noted or handed out. A sector and a block go side by side: what goes through a sector's blocks would take a
+// pair apart at each step.
 
 // A sector number, 0 to S-1.
 #[derive(Clone, Copy, PartialEq, Eq)]

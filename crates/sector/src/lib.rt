@@ -92,7 +92,7 @@ pub fn class_of(sector: &SectorBytes) -> Option<Class>
     ensures { result ≡ class_as (view_in sector.now) }
 {
     let blocks = sector.geometry.blocks();
-    // Is no `?`: the edit lead_not_needed tries another class in the place of None.
+    // Is no `?`: the must-fail edit lead_not_needed answers a class here, and keeps the shape.
     let Some(cycle) = look::lead(sector.block(Block::new(blocks - 1))) else {
         return None;
     };
