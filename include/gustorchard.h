@@ -16,9 +16,9 @@
  * - image, buffer or value, and numbers do not overlap;
  * - numbers is aligned as uint64_t is. The other pointers may be unaligned.
  *
- * The calls use no heap, no globals and no system calls, and up to some 24 KB of stack (docs/BENCHMARKS.md). The library is for x86-64 Linux,
- * and wants memcpy and memset of the program that links it. This file is written by hand after crates/c_api/src/lib.rt, which has the
- * contracts; nothing checks the one against the other, so keep them in step.
+ * The calls use no heap, no globals and no system calls, and up to some 8 KB of stack where sectors have up to 4 KiB, otherwise 24 KB
+ * (docs/BENCHMARKS.md). The library is for x86-64 Linux, and wants memcpy and memset of the program that links it. This file is written by
+ * hand after crates/c_api/src/lib.rt, which has the contracts; nothing checks the one against the other, so keep them in step.
  */
 #ifndef GUSTORCHARD_H
 #define GUSTORCHARD_H

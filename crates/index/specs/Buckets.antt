@@ -4,17 +4,15 @@ use Rattle.rules.specs.Reading.{Entry}
 use Rattle.rules.specs.Stores.{id_in}
 use Rattle.image.specs.Answer.{no_entry}
 
-abbrev pub bucket_count : ℕ
-bucket_count = 4096
-
--- the bucket of an ID: bits 20 to 31 of its product with 2^32 over the golden ratio, so that IDs in a row spread
-unfoldable pub bucket_of : ℕ → ℕ
-bucket_of id = id * 2654435769 / 1048576 % bucket_count
+-- the bucket of an ID, of so many buckets: bits 20 and up of its product with 2^32 over the golden ratio, so that IDs in a row spread
+unfoldable pub bucket_of : (buckets id : ℕ) → ℕ
+bucket_of buckets id = id * 2654435769 / 1048576 % buckets
 
 -- the last of the first n entries whose ID falls into bucket b (the ID field of a done is the reserved one)
-unfoldable pub last_in : (b n : ℕ) → List Entry → Option ℕ
-last_in b zero entries = None
-last_in b (suc n) entries = if eqb (bucket_of (id_in (get_or entries n no_entry).head)) b then Some n else last_in b n entries
+unfoldable pub last_in : (buckets b n : ℕ) → List Entry → Option ℕ
+last_in buckets b zero entries = None
+last_in buckets b (suc n) entries =
+    if eqb (bucket_of buckets (id_in (get_or entries n no_entry).head)) b then Some n else last_in buckets b n entries
 
 -- how the tables note it: 0 is no entry, n + 1 entry n
 unfoldable pub link_to : Option ℕ → ℕ

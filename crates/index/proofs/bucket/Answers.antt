@@ -6,4 +6,4 @@ use Rattle.index.proofs.bucket.Goals as goal
 
 pub returns-clause-bucket : goal.returns-clause-bucket
 unfolding bucket_of
-returns-clause-bucket c = refl
+returns-clause-bucket g c = refl

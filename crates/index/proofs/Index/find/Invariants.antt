@@ -7,7 +7,7 @@ use Rattle.index.proofs.Indexing.{Narrowed}
 use Rattle.index.proofs.Index.find.Given as goal
 
 abbrev pub invariant-loop-link : goal.invariant-loop-link
-invariant-loop-link l = Narrowed (id_no l.id) (entries_of l.self) l.self.count (link_to l.link)
+invariant-loop-link g l = Narrowed g.row.N (id_no l.id) (entries_of l.self) l.self.count (link_to l.link)
 
 abbrev pub decreases-loop-link : goal.decreases-loop-link
-decreases-loop-link l = link_to l.link
+decreases-loop-link g l = link_to l.link

@@ -14,9 +14,9 @@ use Rattle.live.proofs.Passing.{sectors_left, Passing}
 use Rattle.live.proofs.renewed.renewed_by_newer.Given as goal
 
 abbrev pub invariant-loop-g : goal.invariant-loop-g
-invariant-loop-g l = (passed : List Entry)
+invariant-loop-g g l = (passed : List Entry)
     × Passing (sector_no l.spare) (sector_no l.index.sector) (sector_no l.t) (views l.index.image) passed
     × (marks_of l.renewed ≡ padded max_marks (renewed_flags (entries_of l.index) passed))
 
 abbrev pub decreases-loop-g : goal.decreases-loop-g
-decreases-loop-g l = sectors_left (sectors_of l.index.image.geometry) (sector_no l.spare) (sector_no l.t)
+decreases-loop-g g l = sectors_left (sectors_of l.index.image.geometry) (sector_no l.spare) (sector_no l.t)

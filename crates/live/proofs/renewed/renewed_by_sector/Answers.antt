@@ -12,13 +12,13 @@ use Rattle.live.proofs.renewed.renewed_by_sector.Goals as goal
 use Rattle.live.proofs.renewed.renewed_by_sector.Goals.{in-Some, in_default}
 
 pub add-renewed-requires : goal.add-renewed-requires
-add-renewed-requires c =
+add-renewed-requires g c =
     let x = c.args.index.now in
     let few = entries-few x.image.geometry x.image.bytes.now (sector_no x.sector) x.inside in
     omega (arith, renewed-below _ _ _ (sym c.renewed_entry.ensures ∙ c.in-Some.is), few, c.requires.whole)
 
 pub loop-n-preserved : goal.loop-n-preserved
-loop-n-preserved c = λ later same.
+loop-n-preserved g c = λ later same.
     let told = sym c.renewed_entry.ensures in
     newer-next (entries_of c.args.index.now) c.requires.whole later (entries_at c.args.index.now.image c.args.t) c.loop-n.n
     (omega (arith, c.loop-n-test.true, c.requires.t_counted)) (c.loop-n.invariant later same)

@@ -13,5 +13,5 @@ use Rattle.live.proofs.renewed.renewed_by_sector.Given as goal
 
 -- whichever entries were counted before
 abbrev pub invariant-loop-n : goal.invariant-loop-n
-invariant-loop-n l = (later : List Entry) → marks_of l.initial.renewed ≡ padded max_marks (renewed_flags (entries_of l.index) later)
+invariant-loop-n g l = (later : List Entry) → marks_of l.initial.renewed ≡ padded max_marks (renewed_flags (entries_of l.index) later)
     → marks_of l.renewed ≡ padded max_marks (renewed_flags (entries_of l.index) (later ++ take l.n (entries_at l.index.image l.t)))

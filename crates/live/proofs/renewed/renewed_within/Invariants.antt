@@ -10,7 +10,7 @@ use Rattle.live.specs.Live.{renewed_flags}
 use Rattle.live.proofs.renewed.renewed_within.Given as goal
 
 abbrev pub invariant-loop-n : goal.invariant-loop-n
-invariant-loop-n l =
+invariant-loop-n g l =
     (l.index.image ≡ l.initial.index.image)
     × (l.index.sector ≡ l.initial.index.sector)
     × (l.index.count ≡ l.n)
