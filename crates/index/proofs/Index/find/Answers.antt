@@ -32,10 +32,6 @@ counted g c = omega (arith, above g c, c.loop-link.invariant.few)
 here : (g : Over) (c : In-Some g) → c.in-Some.number < length (entries_of c.args.self.now)
 here g c = omega (arith, counted g c, c.args.self.now.indexes.few)
 
-linked : (g : Over) (c : In-Some g) → c.in-Some.number < g.row.N
-linked g c =
-    omega (arith, here g c, c.args.self.now.indexes.fits)
-
 -- it names the ID where the test says so
 named : (g : Over) (c : After-number-in-Some g) → c.in-Some.number < length (entries_of c.args.self.now)
     → is_named (id_no c.args.id) (get_or (entries_of c.args.self.now) c.in-Some.number no_entry).head ≡ eqb c.id_in.result c.number-in-Some.result
@@ -67,12 +63,6 @@ returns-then-id_in-number g c =
     let names = named g t.After-number-in-Some (here g t.In-Some) ∙ eq-eqb _ _ c.if-id_in-number.true in
     sym (c.loop-link.invariant.rest ∙ last-here _ _ _ (above g t.In-Some) names)
 
-pub offset_bounds-self-number : goal.offset_bounds-self-number
-offset_bounds-self-number g c = omega (arith, linked g (goal.at.offset_bounds-self-number g c).In-Some)
-
-pub bounds-self-number : goal.bounds-self-number
-bounds-self-number g c = linked g (goal.at.bounds-self-number g c).In-Some
-
 pub loop-link-smaller : goal.loop-link-smaller
 loop-link-smaller g c =
     let t = goal.at.loop-link-smaller g c in
@@ -88,6 +78,3 @@ loop-link-preserved g c =
 pub returns : goal.returns
 unfolding link_to
 returns g c = sym (c.loop-link.invariant.rest ∙ last-of-none _ _ (ap link_to c.in_default.is))
-
-pub bucket-requires : goal.bucket-requires
-bucket-requires g c = c.args.self.now.indexes.some
