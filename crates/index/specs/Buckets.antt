@@ -4,9 +4,10 @@ use Rattle.rules.specs.Reading.{Entry}
 use Rattle.rules.specs.Stores.{id_in}
 use Rattle.image.specs.Answer.{no_entry}
 
--- the bucket of an ID, of so many buckets: bits 20 and up of its product with 2^32 over the golden ratio, so that IDs in a row spread
+-- the bucket of an ID, of so many buckets: the top bits of the low 32 of its product with 2^32 over the golden ratio, so that IDs in a row
+-- spread, and IDs that differ in their top bits alone do too
 unfoldable pub bucket_of : (buckets id : ℕ) → ℕ
-bucket_of buckets id = id * 2654435769 / 1048576 % buckets
+bucket_of buckets id = id * 2654435769 / (4294967296 / buckets) % buckets
 
 -- the last of the first n entries whose ID falls into bucket b (the ID field of a done is the reserved one)
 unfoldable pub last_in : (buckets b n : ℕ) → List Entry → Option ℕ

@@ -26,14 +26,15 @@ pub struct Index<'a, const N: usize> {
     pub ghost indexes: { Indexes N (entries_at image sector) count heads links },
 }
 
-// The bucket of an ID, of N, by Fibonacci hashing: bits 20 and up of its product with 2^32 over the golden ratio, so that
-// IDs in a row spread.
+// The bucket of an ID, of N, by Fibonacci hashing: the top bits of the low 32 of its product with 2^32 over the golden
+// ratio, so that IDs in a row spread, and IDs that differ in their top bits alone do too.
 fn bucket<const N: usize>(id: u32) -> usize
-    requires { 0 < N }
+    requires some { 0 < N }
+    requires most { N ≤ max_marks }
     ensures bucket { result ≡ bucket_of N id }
     ensures low { result < N }
 {
-    (id as u64 * 2654435769 / 1048576) as usize % N
+    (id as u64 * 2654435769 / (4294967296 / N as u64)) as usize % N
 }
 
 // The entry that a link leads to: 0 leads to none, n + 1 to entry n. A table of Option<u16> would take twice the stack.
