@@ -288,9 +288,10 @@ fn step<R: Files + Print>(
     sizes: Sizes,
     line: &[u8],
 ) -> Result<(), Stop> {
+    // Both before the line is read: after that the compiler clears the second one twice.
     let mut buffer = [0; VALUE];
-    let task = task_of(line, &mut buffer);
     let mut space = [0; LARGEST];
+    let task = task_of(line, &mut buffer);
     let kept = part::copied(image, &mut space);
     let performed = perform(disk.rt, image, sizes, task);
     let is_due = match performed {
