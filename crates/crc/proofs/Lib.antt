@@ -1,2 +1,2 @@
 -- What the proofs of both registers share.
-mod Table
+pub mod Table

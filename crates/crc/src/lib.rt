@@ -1,6 +1,6 @@
 #![tactic(auto)]
 // Both checksums of an entry, at one table lookup a byte.
-mod tables;
+pub mod tables;
 
 ghost use Rattle.std.specs.Prelude.{◌≡◌, ℕ, ◌<◌};
 ghost use Rattle.std.specs.Int.Bits.{bit_xor};

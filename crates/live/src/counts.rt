@@ -14,7 +14,7 @@ use layout::{Geometry, Image, Sector};
 // The counts. Those behind the last sector are free. (That they are an image's stands in clauses where the image is
 // stored to meanwhile: a type would lend it. So does what one sector's count is: a type would carry the image with it.)
 #[derive(Clone, Copy)]
-pub struct EntryCounts([u16; Geometry::MAX_SECTORS]);
+pub struct EntryCounts(pub [u16; Geometry::MAX_SECTORS]);
 
 // An image, the entries of its sectors counted, and the sector that its newest entries are in: at rest the working one.
 // The sector after that is ignored: at rest it is the spare, in mid-turn the unfinished one. (That a sector is not the

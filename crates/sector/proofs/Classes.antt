@@ -21,7 +21,7 @@ use Rattle.sector.specs.Answer.{class_as, has_done_among}
 -- ---- leads
 
 -- a right lead, with its cycle, and a wrong one
-right-lead : (block : List ℕ) {cycle : ℕ} → lead_cycle block ≡ some cycle → (is_lead block ≡ true) × (cycle ≡ cycle_of block)
+pub right-lead : (block : List ℕ) {cycle : ℕ} → lead_cycle block ≡ some cycle → (is_lead block ≡ true) × (cycle ≡ cycle_of block)
 unfolding lead_cycle when
 right-lead block {cycle} e = go (is_lead block) refl e
   where
@@ -29,7 +29,7 @@ right-lead block {cycle} e = go (is_lead block) refl e
     go true same e = (same, sym (some-injective _ _ e))
     go false same e = absurd (none-ne-some cycle e)
 
-wrong-lead : (block : List ℕ) → lead_cycle block ≡ none → is_lead block ≡ false
+pub wrong-lead : (block : List ℕ) → lead_cycle block ≡ none → is_lead block ≡ false
 unfolding lead_cycle when
 wrong-lead block e = go (is_lead block) refl e
   where
